@@ -1,6 +1,6 @@
 -- The open checkpoint and the master, while records are appended and pages are stored.
-use Rattle.std.proofs.Common.{◌≡◌, ℕ, ◌-◌, ◌/◌, ◌<◌, ◌≤◌, ◌++◌, List, [], ◌∷◌, length, get_or, set, refl, sym, ap, subst, ◌∙◌}
-use Rattle.std.proofs.Common.{arith}
+use Rattle.std.proofs.Common.{◌≡◌, ℕ, ◌-◌, ◌/◌, ◌<◌, ◌≤◌, ◌++◌, List, [], ◌∷◌, length, get_or, set}
+use Rattle.std.proofs.Common.{refl, sym, ap, subst, ◌∙◌, arith}
 use Rattle.std.specs.Prelude.{Option, Some, None, IfSome}
 use Rattle.std.proofs.lemmas.List.{append_assoc}
 use Rattle.page_core.specs.declared.page.Page.{Page}
@@ -21,7 +21,8 @@ use Rattle.engine_rules.specs.EngineState.{EngineState, IsGathering, IsMasterOf,
 use Rattle.engine_rules.specs.Gather.{Left, session_of}
 use Rattle.engine_rules.proofs.Gathers.{AreGathered}
 use Rattle.engine_rules.proofs.GatherSteps.{session_same}
-use Rattle.engine_rules.proofs.Makes.{IsBeside, Makes, MakesBeginChkpt, MakesEndChkpt, MakesExtend, MakesPages, MakesTxn}
+use Rattle.engine_rules.proofs.Makes.{IsBeside, Makes, MakesBeginChkpt, MakesEndChkpt, MakesExtend}
+use Rattle.engine_rules.proofs.Makes.{MakesPages, MakesTxn}
 
 -- the record of an event beside checkpoints leaves the open checkpoint as it is
 pub open_stays : (s : EngineState) (event : Event) (r : Record) → IsBeside event → Makes s event r

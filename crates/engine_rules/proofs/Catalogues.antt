@@ -1,6 +1,6 @@
 -- The image copies of an engine, as events and replies alone tell of them.
-use Rattle.std.proofs.Common.{◌≡◌, ℕ, zero, suc, ◌+◌, ◌-◌, ◌++◌, List, [], ◌∷◌, length, set, refl, sym, ap, ◌∙◌}
-use Rattle.std.proofs.Common.{arith}
+use Rattle.std.proofs.Common.{◌≡◌, ℕ, zero, suc, ◌+◌, ◌-◌, ◌++◌, List, [], ◌∷◌, length, set, refl}
+use Rattle.std.proofs.Common.{sym, ap, ◌∙◌, arith}
 use Rattle.std.specs.Prelude.{Option, Result, Ok, map}
 use Rattle.std.proofs.Math.ListN.{get_or-map}
 use Rattle.std.proofs.lemmas.List.{length-map, map-append, map-set}
@@ -10,25 +10,26 @@ use Rattle.copy_vault.specs.declared.copy_id.CopyKind.TheVariants.{Full, Inc}
 use Rattle.copy_vault.specs.declared.copy_id.Decision.{Decision}
 use Rattle.copy_vault.specs.declared.copy_id.Decision.TheVariants.{Taken, Kept}
 use Rattle.copy_vault.specs.Copy.{answer_of, decided_by, undecided}
-use Rattle.copy_vault.specs.Vault.{CopyState, answer_in, complete, decided_in, dropped, opened, reading, sealed_in}
-use Rattle.copy_vault.specs.Vault.{since_of, state_of, with_state}
+use Rattle.copy_vault.specs.Vault.{CopyState, answer_in, complete, decided_in, dropped, opened}
+use Rattle.copy_vault.specs.Vault.{reading, sealed_in, since_of, state_of, with_state}
 use Rattle.copy_vault.proofs.Public.{map-replicate}
 use Rattle.engine_calls.specs.declared.event.Answer.{Answer}
 use Rattle.engine_calls.specs.declared.event.Answer.TheVariants as answer
 use Rattle.engine_calls.specs.declared.event.Event.{Event}
 use Rattle.engine_calls.specs.declared.event.Event.TheVariants as event
 use Rattle.engine_calls.specs.declared.refusal.Refusal.{Refusal}
-use Rattle.engine_rules.specs.Catalogue.{CatalogueEntry, PageMark, answered_mark, being_read, catalogue_from, completed, entry_at}
-use Rattle.engine_rules.specs.Catalogue.{entry_of, mark_of}
-use Rattle.engine_rules.specs.Catalogue.{was_dropped, with_copy_event, with_entry, with_mark, with_next_copy}
-use Rattle.engine_rules.specs.EngineState.{EngineState, effect, opened_copy, stored_page, take_answer}
+use Rattle.engine_rules.specs.Catalogue.{CatalogueEntry, PageMark, answered_mark, being_read}
+use Rattle.engine_rules.specs.Catalogue.{catalogue_from, completed, entry_at, entry_of, mark_of}
+use Rattle.engine_rules.specs.Catalogue.{was_dropped, with_copy_event, with_entry, with_mark}
+use Rattle.engine_rules.specs.Catalogue.{with_next_copy, pages_of_point}
+use Rattle.engine_rules.specs.EngineState.{EngineState, effect, opened_copy, stored_page}
+use Rattle.engine_rules.specs.EngineState.{take_answer}
 use Rattle.engine_rules.specs.Run.{Run}
 use Rattle.engine_rules.specs.Step.{Step}
 use Rattle.engine_rules.proofs.CkptLaws.{IsSized, master_of_step, notes_begun, sized_step}
 use Rattle.engine_rules.proofs.Steps.{step_leaves}
 use Rattle.fuzzy_ckpt.specs.declared.point.Point.{Point}
 use Rattle.engine_rules.specs.CkptReplies.{VolumeSize, with_point, with_size}
-use Rattle.engine_rules.specs.Catalogue.{pages_of_point}
 
 -- ---- copies and their entries
 

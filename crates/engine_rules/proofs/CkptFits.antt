@@ -10,18 +10,19 @@ use Rattle.log_records.specs.Record.{own_lsn}
 use Rattle.log_rules.specs.Checkpoint.{Checkpoint, open_checkpoint}
 use Rattle.fuzzy_ckpt.specs.Ckpt.{IsCkptOf}
 use Rattle.fuzzy_ckpt.specs.Steps.{end_of}
-use Rattle.fuzzy_ckpt.proofs.Public.{begun_is, end_covers, end_pages}
-use Rattle.fuzzy_ckpt.proofs.Public.{open_push}
+use Rattle.fuzzy_ckpt.proofs.Public.{begun_is, end_covers, end_pages, open_push}
 use Rattle.engine_calls.specs.declared.event.Event.{Event}
-use Rattle.engine_rules.specs.EngineState.{EngineState, IsFit, IsGathering, IsMasterOf, closed}
-use Rattle.engine_rules.specs.EngineState.{end, end_ckpt_record, log_of, point_of}
+use Rattle.engine_rules.specs.EngineState.{EngineState, IsFit, IsGathering, IsMasterOf, closed, end}
+use Rattle.engine_rules.specs.EngineState.{end_ckpt_record, log_of, point_of}
 use Rattle.engine_calls.specs.EventFits.{EventFits}
 use Rattle.engine_rules.specs.Gather.{none_left, pages_left, session_of}
 use Rattle.engine_rules.proofs.Beside.{gathered_later, master_later}
 use Rattle.engine_rules.proofs.Follows.{made_follows}
 use Rattle.engine_rules.proofs.Gathers.{AreGathered}
-use Rattle.engine_rules.proofs.GatherSteps.{gathering_of, new_is_session, pages_gathered, txn_gathered}
-use Rattle.engine_rules.proofs.Makes.{IsNoGrowth, Makes, MakesBeginChkpt, MakesEndChkpt, MakesExtend, MakesPages, MakesTxn, left_with}
+use Rattle.engine_rules.proofs.GatherSteps.{gathering_of, new_is_session, pages_gathered}
+use Rattle.engine_rules.proofs.GatherSteps.{txn_gathered}
+use Rattle.engine_rules.proofs.Makes.{IsNoGrowth, Makes, MakesBeginChkpt, MakesEndChkpt}
+use Rattle.engine_rules.proofs.Makes.{MakesExtend, MakesPages, MakesTxn, left_with}
 use Rattle.engine_rules.proofs.Stands.{stands}
 
 pub forced_within : (s : EngineState) → IsFit s → s.forced_end ≤ lsn_of (length s.log)

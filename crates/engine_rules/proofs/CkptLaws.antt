@@ -1,42 +1,45 @@
 -- Laws of checkpoints, of steps and of whole runs.
-use Rattle.std.proofs.Common.{◌≡◌, ℕ, ◌-◌, ◌/◌, ◌<◌, ◌≤◌, ◌↔◌, ◌++◌, Bool, true, false, not, List, [], ◌∷◌, get_or, length, refl, sym, ap}
-use Rattle.std.proofs.Common.{subst, subst₂, ◌∙◌, arith, inl, inr}
-use Rattle.std.specs.Prelude.{Option, Some, None, IfSome, IsSome, IsSomeAnd, Result, Ok, Err, is_none, is_some}
+use Rattle.std.proofs.Common.{◌≡◌, ℕ, ◌-◌, ◌/◌, ◌<◌, ◌≤◌, ◌↔◌, ◌++◌, Bool, true, false, not, List}
+use Rattle.std.proofs.Common.{[], ◌∷◌, get_or, length, refl, sym, ap, subst, subst₂, ◌∙◌, arith}
+use Rattle.std.proofs.Common.{inl, inr}
+use Rattle.std.specs.Prelude.{Option, Some, None, IfSome, IsSome, IsSomeAnd, Result, Ok, Err}
+use Rattle.std.specs.Prelude.{is_none, is_some}
 use Rattle.std.proofs.lemmas.List.{length_push}
 use Rattle.page_core.specs.declared.page.Page.{Page}
 use Rattle.log_records.specs.declared.record.Record.TheVariants as log
 use Rattle.log_records.specs.Coverage.{Covers}
-use Rattle.log_rules.specs.Checkpoint.{Checkpoint, IsCompleteCheckpoint, open_checkpoint, redo_point}
+use Rattle.log_rules.specs.Checkpoint.{Checkpoint, IsCompleteCheckpoint, open_checkpoint}
+use Rattle.log_rules.specs.Checkpoint.{redo_point, checkpoint_after}
 use Rattle.fuzzy_ckpt.specs.declared.point.Point.{Point}
-use Rattle.fuzzy_ckpt.proofs.Public.{open_push}
+use Rattle.fuzzy_ckpt.proofs.Public.{open_push, begun_is}
 use Rattle.engine_calls.specs.declared.event.Answer.{Answer}
 use Rattle.engine_calls.specs.declared.event.Answer.TheVariants as answer
 use Rattle.engine_calls.specs.declared.event.Event.{Event}
 use Rattle.engine_calls.specs.declared.event.Event.TheVariants as event
 use Rattle.engine_calls.specs.declared.refusal.Refusal.{Refusal}
-use Rattle.engine_calls.specs.declared.refusal.Refusal.TheVariants.{CkptOpen, GatherLeft, LogFault, LogFull, NoCkpt}
-use Rattle.engine_calls.specs.declared.refusal.Refusal.TheVariants.{OutOfMemory, StoreFault}
-use Rattle.engine_rules.specs.CkptReplies.{VolumeSize, gather_from, new_size, point_from, with_gather, with_point, with_size}
-use Rattle.engine_rules.specs.EngineState.{EngineState, IsFit, IsMasterOf, Outcome, begin_ckpt_record, effect, end, end_ckpt_record}
-use Rattle.engine_rules.specs.EngineState.{extend_record, log_of, new_state}
+use Rattle.engine_calls.specs.declared.refusal.Refusal.TheVariants.{CkptOpen, GatherLeft, LogFault}
+use Rattle.engine_calls.specs.declared.refusal.Refusal.TheVariants.{LogFull, NoCkpt, OutOfMemory}
+use Rattle.engine_calls.specs.declared.refusal.Refusal.TheVariants.{StoreFault}
+use Rattle.engine_rules.specs.CkptReplies.{VolumeSize, gather_from, new_size, point_from}
+use Rattle.engine_rules.specs.CkptReplies.{with_gather, with_point, with_size}
+use Rattle.engine_rules.specs.EngineState.{EngineState, IsFit, IsMasterOf, Outcome}
+use Rattle.engine_rules.specs.EngineState.{begin_ckpt_record, effect, end, end_ckpt_record}
+use Rattle.engine_rules.specs.EngineState.{extend_record, log_of, new_state, volume_pages}
 use Rattle.engine_rules.proofs.Growth.{count_then, growth_failed}
-use Rattle.engine_rules.proofs.Makes.{BeginsNoCkpt, IsBeside, IsNoGrowth, Makes, MakesBeginChkpt, gives_none}
+use Rattle.engine_rules.proofs.Makes.{BeginsNoCkpt, IsBeside, IsNoGrowth, Makes, MakesBeginChkpt}
+use Rattle.engine_rules.proofs.Makes.{gives_none}
 use Rattle.log_records.specs.declared.record.Record.{Record}
 use Rattle.log_records.specs.Log.{Log, lsn_of, page_count, page_count_below, with_next}
 use Rattle.log_records.specs.PageCount.{given_count}
-use Rattle.log_records.proofs.Public.{page_count-same}
-use Rattle.log_records.proofs.Public.{count_behind-nil, page_count_at-append}
-use Rattle.log_rules.specs.Checkpoint.{checkpoint_after}
-use Rattle.fuzzy_ckpt.proofs.Public.{begun_is}
-use Rattle.engine_rules.specs.EngineState.{volume_pages}
+use Rattle.log_records.proofs.Public.{page_count-same, count_behind-nil, page_count_at-append}
 use Rattle.engine_rules.specs.Gather.{is_done}
 use Rattle.engine_rules.specs.Refusal.{has_no_room, or_else, refused_if, refusal}
 use Rattle.engine_rules.specs.Run.{Run}
 use Rattle.engine_rules.specs.Step.{Fails, Step}
 use Rattle.engine_rules.proofs.Beside.{open_stays}
-use Rattle.engine_rules.proofs.Gathers.{PassesPages, PassesTxns, TakesPages, TakesTxn, WasDone, ckpt_end_is, closed_part}
-use Rattle.engine_rules.proofs.Gathers.{gather_case, passes_pages, passes_txns, takes_pages, takes_txn}
-use Rattle.engine_rules.proofs.Gathers.{was_done}
+use Rattle.engine_rules.proofs.Gathers.{PassesPages, PassesTxns, TakesPages, TakesTxn, WasDone}
+use Rattle.engine_rules.proofs.Gathers.{ckpt_end_is, closed_part, gather_case, passes_pages}
+use Rattle.engine_rules.proofs.Gathers.{passes_txns, takes_pages, takes_txn, was_done}
 use Rattle.engine_rules.proofs.Refusals.{ckpt_end_passes, end_not_by_device, gather_passes}
 use Rattle.engine_rules.proofs.Steps.{stays_or_grows, step_leaves}
 

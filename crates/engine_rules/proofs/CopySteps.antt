@@ -1,7 +1,6 @@
 -- The image copies of an engine as calls on them begin them, and go on with them.
-use Rattle.std.proofs.Common.{◌≡◌, ℕ, zero, suc, ◌+◌, ◌<◌, List, length, get_or, refl}
-use Rattle.std.proofs.Common.{sym, ap, subst}
-use Rattle.std.proofs.Common.{arith, inl, inr}
+use Rattle.std.proofs.Common.{◌≡◌, ℕ, zero, suc, ◌+◌, ◌<◌, List, length, get_or, refl, sym, ap}
+use Rattle.std.proofs.Common.{subst, arith, inl, inr}
 use Rattle.std.specs.Prelude.{Option, Some, None, IfSome, IsSome}
 use Rattle.std.specs.Option.{option_map_or}
 use Rattle.std.proofs.Math.ListN.{get_or-eq_default}
@@ -19,16 +18,13 @@ use Rattle.copy_vault.specs.Copy.{CopyView}
 use Rattle.copy_vault.specs.Vault.{CopyState, HasParent, complete, decided, dropped, state_of}
 use Rattle.copy_vault.specs.Vault.{opened as opened_with}
 use Rattle.copy_coverage.specs.Copied.{AreCopied, IsPoint, copy_in}
-use Rattle.copy_coverage.proofs.Public.{copied_decided, copied_opened}
-use Rattle.copy_coverage.proofs.Public.{count_below-not_more}
+use Rattle.copy_coverage.proofs.Public.{copied_decided, copied_opened, count_below-not_more}
 use Rattle.copy_coverage.proofs.Public.{begin_before_end, point_of}
 use Rattle.engine_calls.specs.declared.event.Event.TheVariants as event
-use Rattle.engine_rules.specs.EngineState.{EngineState, IsFit, IsMasterOf, log_of}
-use Rattle.engine_rules.specs.EngineState.{stored_page}
-use Rattle.engine_rules.specs.Refusal.{refusal}
-use Rattle.engine_rules.proofs.Refusals.{inc_passes}
-use Rattle.engine_rules.proofs.Refusals.{take_passes}
+use Rattle.engine_rules.specs.EngineState.{EngineState, IsFit, IsMasterOf, log_of, stored_page}
 use Rattle.engine_rules.specs.EngineState.{opened_copy}
+use Rattle.engine_rules.specs.Refusal.{refusal}
+use Rattle.engine_rules.proofs.Refusals.{inc_passes, take_passes}
 use Rattle.log_records.specs.Log.{page_count_below}
 
 -- ---- a copy begins

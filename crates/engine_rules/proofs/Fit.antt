@@ -1,12 +1,13 @@
 -- Each engine is fit: a new one, and one after a step.
-use Rattle.std.proofs.Common.{◌≡◌, ℕ, zero, suc, get_or, replicate, ◌+◌, ◌<◌, ◌≤◌, ◌++◌, List, [], ◌∷◌, length, take}
-use Rattle.std.proofs.Common.{lit≤, refl, sym, ap, ◌∙◌, subst, arith, true≢false}
+use Rattle.std.proofs.Common.{◌≡◌, ℕ, zero, suc, get_or, replicate, ◌+◌, ◌<◌, ◌≤◌, ◌++◌, List, []}
+use Rattle.std.proofs.Common.{◌∷◌, length, take, lit≤, refl, sym, ap, ◌∙◌, subst, arith, true≢false}
 use Rattle.std.specs.Prelude.{IfSome, IsSome, Option, Result, Some, None}
 use Rattle.std.proofs.lemmas.List.FromFn.{get_or-map-range_with_len, length-map-range_with_len}
 use Rattle.page_core.specs.declared.page.Page.{Page}
 use Rattle.page_core.specs.Page.{formatted}
 use Rattle.page_core.specs.Volume.{formatted_pages}
-use Rattle.log_records.proofs.Public.{stored_later}
+use Rattle.log_records.proofs.Public.{stored_later, change_within, count_behind-nil, more-none}
+use Rattle.log_records.proofs.Public.{page_count-same, transaction_gives_none}
 use Rattle.log_records.specs.Image.{image}
 use Rattle.buffer_pool.proofs.Public.{images_later, resident_later}
 use Rattle.buffer_pool.specs.Frames.{IsResident}
@@ -18,12 +19,10 @@ use Rattle.log_records.specs.declared.record.Record.{Record}
 use Rattle.log_records.specs.Log.{IsPageCount, StandsAt, with_next}
 use Rattle.log_records.specs.PageCount.{given_count}
 use Rattle.log_records.specs.declared.page_change.PageChange.{PageChange}
-use Rattle.log_records.proofs.Public.{change_within}
 use Rattle.log_records.specs.Record.{IsOfTransaction, change_of}
 use Rattle.log_rules.specs.Linked.{MayFollow}
 use Rattle.log_rules.specs.Transactions.{owed}
-use Rattle.log_rules.proofs.Public.{linked_none, linked_push}
-use Rattle.log_rules.proofs.Public.{valid_next}
+use Rattle.log_rules.proofs.Public.{linked_none, linked_push, valid_next}
 use Rattle.copy_vault.specs.Copy.{CopyView}
 use Rattle.copy_vault.specs.Vault.{complete, dropped, reading, state_of}
 use Rattle.copy_coverage.specs.Copied.{AreCopied, copy_in}
@@ -32,11 +31,11 @@ use Rattle.engine_calls.specs.declared.event.Answer.{Answer}
 use Rattle.engine_calls.specs.declared.event.Event.{Event}
 use Rattle.engine_calls.specs.declared.refusal.Refusal.{Refusal}
 use Rattle.engine_rules.specs.Call.{Calls}
-use Rattle.engine_rules.specs.EngineState.{AreCounted, AreStable, EngineState, HaveMaster, IsFit, appended, ckpt_end_effect, closed, end}
-use Rattle.engine_rules.specs.EngineState.{end_ckpt_record, forced_to, gathering, image_of, log_of, new_state, point_of}
-use Rattle.engine_rules.specs.EngineState.{with_copies, with_page}
+use Rattle.engine_rules.specs.EngineState.{AreCounted, AreStable, EngineState, HaveMaster, IsFit}
+use Rattle.engine_rules.specs.EngineState.{appended, ckpt_end_effect, closed, end, end_ckpt_record}
+use Rattle.engine_rules.specs.EngineState.{forced_to, gathering, image_of, log_of, new_state}
+use Rattle.engine_rules.specs.EngineState.{point_of, with_copies, with_page, volume_pages}
 use Rattle.engine_rules.specs.Gather.{Left, pages_left}
-use Rattle.engine_rules.specs.EngineState.{volume_pages}
 use Rattle.engine_calls.specs.EventFits.{EventFits}
 use Rattle.engine_rules.specs.Run.{Run}
 use Rattle.engine_rules.specs.Step.{Step}
@@ -48,14 +47,14 @@ use Rattle.engine_rules.proofs.Growth.{extended_fit, lsn_of_formatted}
 use Rattle.engine_rules.proofs.Rooms.{room_grows, room_push}
 use Rattle.engine_rules.proofs.Stands.{stands}
 use Rattle.engine_rules.proofs.Gathers.{AreGathered}
-use Rattle.engine_rules.proofs.Moves.{Adds, Begun, Completes, Copied, Done, Extends, Fetched, Forced, Gathered, Here, Keeps, Moves, holding}
-use Rattle.engine_rules.proofs.Moves.{Rest, Start, Stored, Then, moves}
+use Rattle.engine_rules.proofs.Moves.{Adds, Begun, Completes, Copied, Done, Extends, Fetched}
+use Rattle.engine_rules.proofs.Moves.{Forced, Gathered, Here, Keeps, Moves, holding, Rest, Start}
+use Rattle.engine_rules.proofs.Moves.{Stored, Then, moves}
 use Rattle.engine_rules.proofs.Refusals.{CkptEnds}
 use Rattle.engine_rules.proofs.PageComes.{dirty_after, fetched_fit, needed_within, page_comes}
 use Rattle.engine_rules.proofs.Writes.{begun_fit, stored_fit}
-use Rattle.log_records.proofs.Public.{count_behind-nil, more-none}
-use Rattle.engine_rules.proofs.Makes.{IsBeside, IsNoGrowth, Makes, MakesEndChkpt, gives_none, left_with, makes}
-use Rattle.log_records.proofs.Public.{page_count-same, transaction_gives_none}
+use Rattle.engine_rules.proofs.Makes.{IsBeside, IsNoGrowth, Makes, MakesEndChkpt, gives_none}
+use Rattle.engine_rules.proofs.Makes.{left_with, makes}
 
 -- ---- a record is appended
 
@@ -173,7 +172,8 @@ fit_completed s event fit fits stays ckpt passes =
     MakesEndChkpt c ckpt passes.still_open passes.done passes.room in
     let after = closed s c in
     let now : IsFit after =
-    fit_with s (end_ckpt_record s c) pages_left fit (made_comes s event (end_ckpt_record s c) fit fits stays makes) tt in
+    fit_with s (end_ckpt_record s c) pages_left fit
+    (made_comes s event (end_ckpt_record s c) fit fits stays makes) tt in
     let all : IsFit (forced_to after (end after)) = fit_forced after (end after) now (all_forces after now.forced) in
     let master = point_is_master s c fit passes.still_open passes.done in
     let noted : HaveMaster (Some (point_of s c)) s.copies = λ id copy is. refl in
@@ -237,7 +237,8 @@ moves_fit old event reply new fit fits (Extends count none grows begins writes s
 
 pub fit_of_step : (old : EngineState) (event : Event) (reply : Result Answer Refusal) (new : EngineState) → IsFit old
     → EventFits event → Step old event reply new → IsFit new
-fit_of_step old event reply new fit numbers step = moves_fit old event reply new fit numbers (moves old event reply new step)
+fit_of_step old event reply new fit numbers step =
+    moves_fit old event reply new fit numbers (moves old event reply new step)
 
 pub fit_of_run : (old : EngineState) (events : List Event) (replies : List (Result Answer Refusal)) (new : EngineState)
     → IsFit old → All EventFits events → Run old events replies new → IsFit new

@@ -9,14 +9,15 @@ use Rattle.log_records.specs.declared.record.Record.{Record}
 use Rattle.log_rules.specs.Linked.{GoesOn, IsActive, MayFollow, number_in}
 use Rattle.log_rules.specs.Transactions.{holder, is_open, last_lsn, last_of, pending}
 use Rattle.engine_calls.specs.declared.event.Event.{Event}
-use Rattle.engine_rules.specs.EngineState.{EngineState, IsFit, comp_record}
-use Rattle.engine_rules.specs.EngineState.{end_record, update_record}
+use Rattle.engine_rules.specs.EngineState.{EngineState, IsFit, comp_record, end_record}
+use Rattle.engine_rules.specs.EngineState.{update_record}
 use Rattle.engine_rules.specs.Refusal.{refusal}
 use Rattle.engine_rules.proofs.GatherSteps.{end_ckpt_follows, pages_follow, txn_follows}
 use Rattle.engine_rules.proofs.Refusals.{ActiveIn, RollsIn}
 use Rattle.engine_rules.specs.Call.{record_for}
-use Rattle.engine_rules.proofs.Makes.{Makes, MakesAbort, MakesAdd, MakesBegin, MakesBeginChkpt, MakesCommit, MakesComp}
-use Rattle.engine_rules.proofs.Makes.{MakesEnd, MakesEndChkpt, MakesExtend, MakesPages, MakesSet, MakesTxn, makes}
+use Rattle.engine_rules.proofs.Makes.{Makes, MakesAbort, MakesAdd, MakesBegin, MakesBeginChkpt}
+use Rattle.engine_rules.proofs.Makes.{MakesCommit, MakesComp, MakesEnd, MakesEndChkpt, MakesExtend}
+use Rattle.engine_rules.proofs.Makes.{MakesPages, MakesSet, MakesTxn, makes}
 
 -- a list that has no last element has none
 pub none_last : {X : Type 0} (xs : List X) → last_of xs ≡ None → xs ≡ []

@@ -1,7 +1,8 @@
 -- What the steps of a gather append, and what is gathered after them.
-use Rattle.std.proofs.Common.{◌≡◌, ℕ, suc, ◌+◌, ◌-◌, ◌/◌, ◌<◌, ◌≤◌, ◌++◌, List, [], ◌∷◌, length, refl, sym, ap, subst, ◌∙◌}
-use Rattle.std.proofs.Common.{arith}
-use Rattle.std.specs.Prelude.{Option, Some, None, IfSome, IsSomeAnd, filter, min, nat_le, slice_get, take}
+use Rattle.std.proofs.Common.{◌≡◌, ℕ, suc, ◌+◌, ◌-◌, ◌/◌, ◌<◌, ◌≤◌, ◌++◌, List, [], ◌∷◌, length}
+use Rattle.std.proofs.Common.{refl, sym, ap, subst, ◌∙◌, arith}
+use Rattle.std.specs.Prelude.{Option, Some, None, IfSome, IsSomeAnd, filter, min, nat_le, slice_get}
+use Rattle.std.specs.Prelude.{take}
 use Rattle.std.specs.Option.{option_map_or}
 use Rattle.std.proofs.lemmas.List.{length-append, length-take}
 use Rattle.std.proofs.lemmas.List.Sums.{fold-append}
@@ -15,20 +16,20 @@ use Rattle.log_records.specs.Coverage.{dirty, next_dirty}
 use Rattle.log_records.specs.DirtyPage.{entries_of}
 use Rattle.log_records.specs.Log.{Log, StandsAt, lsn_of, page_count_below, with_next}
 use Rattle.log_records.proofs.Public.{page_count_at-append}
-use Rattle.log_rules.specs.Checkpoint.{Checkpoint, checkpoint_after, open_checkpoint, redo_point, with_pages}
-use Rattle.log_rules.specs.Checkpoint.{with_txn}
+use Rattle.log_rules.specs.Checkpoint.{Checkpoint, checkpoint_after, open_checkpoint, redo_point}
+use Rattle.log_rules.specs.Checkpoint.{with_pages, with_txn}
 use Rattle.log_rules.specs.Linked.{HasOldTxns, MayEnd, MayFollow}
 use Rattle.log_rules.specs.Transactions.{last_of}
 use Rattle.fuzzy_ckpt.specs.Ckpt.{AreCovered, CkptView, IsCkptOf, Phase, in_pages, in_txns}
 use Rattle.fuzzy_ckpt.specs.Steps.{end_of, last_page, new_ckpt, pages_of, past_pages}
 use Rattle.log_records.specs.declared.record.Record.TheVariants.{BeginChkpt}
-use Rattle.fuzzy_ckpt.proofs.Public.{begun_is, end_stands}
-use Rattle.fuzzy_ckpt.proofs.Public.{open_before, open_push}
-use Rattle.fuzzy_ckpt.proofs.Public.{MorePages, more_pages, none_covered, none_kept}
-use Rattle.fuzzy_ckpt.proofs.Public.{MoreTxns, all_passed, more_txns, txns_cover}
-use Rattle.engine_rules.specs.EngineState.{EngineState, IsFit, IsGathering, end, end_ckpt_record, log_of}
-use Rattle.engine_rules.specs.EngineState.{volume_pages}
-use Rattle.engine_rules.specs.Gather.{Left, behind_pages, behind_txns, none_left, pages_left, phase_of, session_of, txns_left}
+use Rattle.fuzzy_ckpt.proofs.Public.{begun_is, end_stands, open_before, open_push, MorePages}
+use Rattle.fuzzy_ckpt.proofs.Public.{more_pages, none_covered, none_kept, MoreTxns, all_passed}
+use Rattle.fuzzy_ckpt.proofs.Public.{more_txns, txns_cover}
+use Rattle.engine_rules.specs.EngineState.{EngineState, IsFit, IsGathering, end, end_ckpt_record}
+use Rattle.engine_rules.specs.EngineState.{log_of, volume_pages}
+use Rattle.engine_rules.specs.Gather.{Left, behind_pages, behind_txns, none_left, pages_left}
+use Rattle.engine_rules.specs.Gather.{phase_of, session_of, txns_left}
 use Rattle.engine_rules.proofs.Gathers.{AreGathered, FindsPages, FindsTxn, pages_record, txn_entry}
 
 -- the open checkpoint of a fit engine

@@ -15,11 +15,12 @@ use Rattle.fuzzy_ckpt.specs.Steps.{Gathering, gather_step, pages_of, past_pages,
 use Rattle.engine_calls.specs.declared.event.Answer.TheVariants as answer
 use Rattle.engine_calls.specs.declared.event.Event.TheVariants as event
 use Rattle.engine_calls.specs.declared.refusal.Refusal.TheVariants.{LogFault}
-use Rattle.engine_rules.specs.EngineState.{EngineState, IsGathering, Outcome, appended, ckpt_end_effect, closed, effect}
-use Rattle.engine_rules.specs.EngineState.{end, gather_effect, gathered_record, gathering, log_of, next_step}
+use Rattle.engine_rules.specs.EngineState.{EngineState, IsGathering, Outcome, appended}
+use Rattle.engine_rules.specs.EngineState.{ckpt_end_effect, closed, effect, end, gather_effect}
+use Rattle.engine_rules.specs.EngineState.{gathered_record, gathering, log_of, next_step}
 use Rattle.engine_rules.specs.Step.{Fails, ForcedPart}
-use Rattle.engine_rules.specs.Gather.{Left, behind_pages, behind_txns, none_left, pages_left, session_of}
-use Rattle.engine_rules.specs.Gather.{txns_left}
+use Rattle.engine_rules.specs.Gather.{Left, behind_pages, behind_txns, none_left, pages_left}
+use Rattle.engine_rules.specs.Gather.{session_of, txns_left}
 
 -- what is said of the open checkpoint, if one is
 abbrev pub AreGathered : Log → List Page → Left → Type 0

@@ -1,6 +1,6 @@
 -- The volume grows: an engine that was fit stays so.
-use Rattle.std.proofs.Common.{◌≡◌, ℕ, ◌-◌, ◌<◌, ◌≤◌, ◌++◌, [], ◌∷◌, length, get_or, map, refl, sym, ap, subst}
-use Rattle.std.proofs.Common.{◌∙◌, arith, inl, inr, false, true≢false, replicate}
+use Rattle.std.proofs.Common.{◌≡◌, ℕ, ◌-◌, ◌<◌, ◌≤◌, ◌++◌, [], ◌∷◌, length, get_or, map, refl, sym}
+use Rattle.std.proofs.Common.{ap, subst, ◌∙◌, arith, inl, inr, false, true≢false, replicate}
 use Rattle.std.specs.Prelude.{IfSome, Option, Some, None, Err, is_none}
 use Rattle.std.specs.List.{range_with_len}
 use Rattle.std.proofs.Math.Nat.{max-eq_right}
@@ -15,29 +15,26 @@ use Rattle.log_records.specs.declared.limits.TheConstants.{MAX_RECORDS}
 use Rattle.log_records.specs.Coverage.{AreStored, rec_lsn}
 use Rattle.log_records.specs.Image.{image}
 use Rattle.log_records.specs.Log.{with_next}
-use Rattle.log_records.proofs.Public.{image_is_clean, rec_later}
-use Rattle.log_records.proofs.Public.{page_count-push}
-use Rattle.log_records.proofs.Public.{image_past}
+use Rattle.log_records.proofs.Public.{image_is_clean, rec_later, page_count-push, image_past}
 use Rattle.log_records.proofs.Public.{stored_later}
 use Rattle.log_rules.specs.Checkpoint.{Checkpoint, open_checkpoint}
-use Rattle.log_rules.proofs.Public.{valid_next}
-use Rattle.log_rules.proofs.Public.{linked_push}
+use Rattle.log_rules.proofs.Public.{valid_next, linked_push}
 use Rattle.buffer_pool.specs.Frames.{IsResident}
 use Rattle.buffer_pool.specs.Pool.{is_clean}
 use Rattle.buffer_pool.proofs.Public.{extended_at, length-extended, stored_extended, stored_grown}
 use Rattle.buffer_pool.proofs.Public.{images_later, resident_later}
 use Rattle.fuzzy_ckpt.specs.declared.point.Point.{Point}
 use Rattle.fuzzy_ckpt.specs.Ckpt.{AreCovered, IsCkptOf}
-use Rattle.fuzzy_ckpt.proofs.Public.{all_grown, behind_grown, behind_later}
-use Rattle.fuzzy_ckpt.proofs.Public.{ckpt_grown, open_before, open_grown}
+use Rattle.fuzzy_ckpt.proofs.Public.{all_grown, behind_grown, behind_later, ckpt_grown, open_before}
+use Rattle.fuzzy_ckpt.proofs.Public.{open_grown}
 use Rattle.copy_coverage.specs.Copied.{AreCopied}
-use Rattle.copy_coverage.proofs.Public.{copied_later}
-use Rattle.copy_coverage.proofs.Public.{copied_grown}
+use Rattle.copy_coverage.proofs.Public.{copied_later, copied_grown}
 use Rattle.engine_calls.specs.declared.event.Event.TheVariants as event
 use Rattle.engine_calls.specs.declared.refusal.Refusal.{Refusal}
 use Rattle.engine_calls.specs.declared.refusal.Refusal.TheVariants.{OutOfMemory, StoreFault}
-use Rattle.engine_rules.specs.EngineState.{AreCounted, AreHeld, AreStable, EngineState, IsFit, IsGathering, effect, end}
-use Rattle.engine_rules.specs.EngineState.{extend_record, log_of, volume_pages}
+use Rattle.engine_rules.specs.EngineState.{AreCounted, AreHeld, AreStable, EngineState, IsFit}
+use Rattle.engine_rules.specs.EngineState.{IsGathering, effect, end, extend_record, log_of}
+use Rattle.engine_rules.specs.EngineState.{volume_pages}
 use Rattle.engine_rules.specs.Gather.{session_of}
 use Rattle.engine_rules.specs.Refusal.{refusal}
 use Rattle.engine_rules.specs.Step.{Fails, Step}

@@ -1,5 +1,6 @@
 -- The record that an accepted call appends, and what the call has passed.
-use Rattle.std.proofs.Common.{◌≡◌, ℕ, ◌^◌, ◌<◌, Bool, true, false, cond, length, refl, sym, ap, subst, ◌∙◌}
+use Rattle.std.proofs.Common.{◌≡◌, ℕ, ◌^◌, ◌<◌, Bool, true, false, cond, length, refl, sym, ap}
+use Rattle.std.proofs.Common.{subst, ◌∙◌}
 use Rattle.std.specs.Prelude.{Option, Some, None, nat_lt}
 use Rattle.std.specs.Option.{option_and_then, option_map, option_map_or}
 use Rattle.std.proofs.lemmas.Option.{same_Some}
@@ -19,15 +20,18 @@ use Rattle.engine_calls.specs.declared.event.Event.{Event}
 use Rattle.engine_calls.specs.declared.event.Event.TheVariants as event
 use Rattle.engine_calls.specs.EventFits.{EventFits}
 use Rattle.engine_rules.specs.Call.{record_for}
-use Rattle.engine_rules.specs.EngineState.{EngineState, abort_record, begin_ckpt_record, commit_record, comp_record, end}
-use Rattle.engine_rules.specs.EngineState.{end_ckpt_record, end_record, extend_record, next_txn, taken_back, update_record}
+use Rattle.engine_rules.specs.EngineState.{EngineState, abort_record, begin_ckpt_record}
+use Rattle.engine_rules.specs.EngineState.{commit_record, comp_record, end, end_ckpt_record}
+use Rattle.engine_rules.specs.EngineState.{end_record, extend_record, next_txn, taken_back}
+use Rattle.engine_rules.specs.EngineState.{update_record}
 use Rattle.engine_rules.specs.Gather.{Left, none_left, pages_left, txns_left}
 use Rattle.engine_rules.specs.Refusal.{refusal}
-use Rattle.engine_rules.proofs.Gathers.{FindsPages, FindsTxn, PassesPages, PassesTxns, TakesPages, TakesTxn, WasDone}
-use Rattle.engine_rules.proofs.Gathers.{gather_case, pages_record, passes_pages, passes_txns, takes_pages, takes_txn}
-use Rattle.engine_rules.proofs.Gathers.{txn_entry, was_done}
-use Rattle.engine_rules.proofs.Refusals.{ActiveIn, BeginPasses, ChangePasses, CkptBegins, Extends, HasRoomFor, RollsIn}
-use Rattle.engine_rules.proofs.Refusals.{active_passes, back_passes, begin_passes, change_passes, ckpt_begin_passes}
+use Rattle.engine_rules.proofs.Gathers.{FindsPages, FindsTxn, PassesPages, PassesTxns, TakesPages}
+use Rattle.engine_rules.proofs.Gathers.{TakesTxn, WasDone, gather_case, pages_record, passes_pages}
+use Rattle.engine_rules.proofs.Gathers.{passes_txns, takes_pages, takes_txn, txn_entry, was_done}
+use Rattle.engine_rules.proofs.Refusals.{ActiveIn, BeginPasses, ChangePasses, CkptBegins, Extends}
+use Rattle.engine_rules.proofs.Refusals.{HasRoomFor, RollsIn, active_passes, back_passes}
+use Rattle.engine_rules.proofs.Refusals.{begin_passes, change_passes, ckpt_begin_passes}
 use Rattle.engine_rules.proofs.Refusals.{ckpt_end_passes, extend_passes, gather_passes, undo_passes}
 
 -- ---- events that leave something as it is

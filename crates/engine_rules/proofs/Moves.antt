@@ -1,5 +1,6 @@
 -- The moves of an engine: each step is at most one record at the end of the log, and a few moves behind it.
-use Rattle.std.proofs.Common.{◌≡◌, ℕ, ◌<◌, ◌≤◌, ◌⊎◌, List, cond, set, refl, sym, ap, subst, ◌∙◌, arith, inl, inr}
+use Rattle.std.proofs.Common.{◌≡◌, ℕ, ◌<◌, ◌≤◌, ◌⊎◌, List, cond, set, refl, sym, ap, subst, ◌∙◌}
+use Rattle.std.proofs.Common.{arith, inl, inr}
 use Rattle.std.specs.Prelude.{Option, Some, None, IfSome, IsSome, IsSomeAnd, Result, Ok, Err}
 use Rattle.std.specs.Option.{option_map, option_map_or}
 use Rattle.page_core.specs.declared.page.Page.{Page}
@@ -19,25 +20,32 @@ use Rattle.engine_calls.specs.declared.event.Answer.TheVariants as answer
 use Rattle.engine_calls.specs.declared.event.Event.{Event}
 use Rattle.engine_calls.specs.declared.event.Event.TheVariants as event
 use Rattle.engine_calls.specs.declared.refusal.Refusal.{Refusal}
-use Rattle.engine_calls.specs.declared.refusal.Refusal.TheVariants.{CommitUnsure, LogFault, OutOfMemory, StoreFault}
+use Rattle.engine_calls.specs.declared.refusal.Refusal.TheVariants.{CommitUnsure, LogFault}
+use Rattle.engine_calls.specs.declared.refusal.Refusal.TheVariants.{OutOfMemory, StoreFault}
 use Rattle.engine_rules.specs.Accepted.{shown_call}
-use Rattle.engine_rules.specs.EngineState.{EngineState, IsFit, Outcome, appended, commit_record, begun_write, ckpt_end_effect, closed}
-use Rattle.engine_rules.specs.EngineState.{comp_record, effect, end, end_ckpt_record, end_record, ended_write, extend_record}
-use Rattle.engine_rules.specs.EngineState.{forced_through, forced_to, gathering, image_of, log_of, page_needed, page_now}
-use Rattle.engine_rules.specs.EngineState.{taken_back, undid, volume_pages, with_copies, with_page, with_stored}
+use Rattle.engine_rules.specs.EngineState.{EngineState, IsFit, Outcome, appended, commit_record}
+use Rattle.engine_rules.specs.EngineState.{begun_write, ckpt_end_effect, closed, comp_record}
+use Rattle.engine_rules.specs.EngineState.{effect, end, end_ckpt_record, end_record, ended_write}
+use Rattle.engine_rules.specs.EngineState.{extend_record, forced_through, forced_to, gathering}
+use Rattle.engine_rules.specs.EngineState.{image_of, log_of, page_needed, page_now, taken_back}
+use Rattle.engine_rules.specs.EngineState.{undid, volume_pages, with_copies, with_page, with_stored}
 use Rattle.engine_rules.specs.Gather.{Left, none_left, txns_left}
 use Rattle.engine_rules.specs.Refusal.{refusal}
 use Rattle.engine_rules.specs.Step.{Fails, ForcedPart, MayBeStored, Step}
 use Rattle.engine_rules.proofs.CopySteps.{has_parent, opens, takes}
-use Rattle.engine_rules.proofs.Forces.{EndsAtRecord, Forces, all_forces, part_forces, through_forces, up_to_is_record}
-use Rattle.engine_rules.proofs.Gathers.{AreGathered, PassesPages, PassesTxns, TakesPages, TakesTxn, WasDone, ckpt_end_is}
-use Rattle.engine_rules.proofs.Gathers.{closed_part, gather_case, passes_pages, passes_txns, takes_pages, takes_txn}
-use Rattle.engine_rules.proofs.Gathers.{was_done}
+use Rattle.engine_rules.proofs.Forces.{EndsAtRecord, Forces, all_forces, part_forces}
+use Rattle.engine_rules.proofs.Forces.{through_forces, up_to_is_record}
+use Rattle.engine_rules.proofs.Gathers.{AreGathered, PassesPages, PassesTxns, TakesPages, TakesTxn}
+use Rattle.engine_rules.proofs.Gathers.{WasDone, ckpt_end_is, closed_part, gather_case}
+use Rattle.engine_rules.proofs.Gathers.{passes_pages, passes_txns, takes_pages, takes_txn, was_done}
 use Rattle.engine_rules.proofs.GatherSteps.{pages_passed, txns_passed}
-use Rattle.engine_rules.proofs.Makes.{BeginsNoCkpt, IsBeside, IsNoGrowth, Makes, MakesEndChkpt, left_with, makes}
-use Rattle.engine_rules.proofs.Refusals.{CkptEnds, WriteEnds, back_passes, ckpt_end_passes, commit_not_unsure, drop_passes}
-use Rattle.engine_rules.proofs.Refusals.{full_is_few, full_passes, gather_passes, inc_is_few, inc_passes, repair_passes}
-use Rattle.engine_rules.proofs.Refusals.{seal_passes, take_passes, undo_passes, write_begin_passes, write_end_passes}
+use Rattle.engine_rules.proofs.Makes.{BeginsNoCkpt, IsBeside, IsNoGrowth, Makes, MakesEndChkpt}
+use Rattle.engine_rules.proofs.Makes.{left_with, makes}
+use Rattle.engine_rules.proofs.Refusals.{CkptEnds, WriteEnds, back_passes, ckpt_end_passes}
+use Rattle.engine_rules.proofs.Refusals.{commit_not_unsure, drop_passes, full_is_few, full_passes}
+use Rattle.engine_rules.proofs.Refusals.{gather_passes, inc_is_few, inc_passes, repair_passes}
+use Rattle.engine_rules.proofs.Refusals.{seal_passes, take_passes, undo_passes, write_begin_passes}
+use Rattle.engine_rules.proofs.Refusals.{write_end_passes}
 
 -- ---- what replies leave as it is
 
@@ -128,7 +136,8 @@ pub data Moves (old : EngineState) (call : Event) (reply : Result Answer Refusal
       → Rest call reply (gathering (appended (holding old pages) r) (left_with old.left r)) new
       → Moves old call reply new
   -- the open checkpoint is complete, and becomes the master
-  Completes : (passes : CkptEnds old) → ¬ IsBeside call → ¬ LeavesMaster call reply → IsNoGrowth call → shown_call call reply ≡ None
+  Completes : (passes : CkptEnds old) → ¬ IsBeside call → ¬ LeavesMaster call reply
+      → IsNoGrowth call → shown_call call reply ≡ None
       → Moves old call reply (ckpt_end_effect old passes.ckpt).state
   -- the volume grows
   Extends : (count : ℕ) → refusal old (event.Extend count) ≡ None → ¬ IsNoGrowth call → ¬ BeginsNoCkpt call
@@ -151,7 +160,8 @@ module _ (old : EngineState) (event : Event) (reply : Result Answer Refusal) whe
   part new target within forced =
       let is = forced.reached.2 in
       subst (Rest event reply old) (sym is)
-      (one (Forced (lsn_of forced.reached.0) (λ ends. subst (Forces old) is (part_forces old new target within forced))))
+      (one (Forced (lsn_of forced.reached.0)
+      (λ ends. subst (Forces old) is (part_forces old new target within forced))))
 
   same : (new : EngineState) → shown_call event reply ≡ None → new ≡ old → Moves old event reply new
   same new unseen is = subst (Moves old event reply) (sym is) (Keeps Here unseen Done)
@@ -249,7 +259,8 @@ answered old event.CkptBegin answer none given =
 answered old event.CkptGather answer none given = gather_moves old answer none
 answered old event.CkptEnd answer none given =
     let passes = ckpt_end_passes old none in
-    subst (Moves old event.CkptEnd (Ok answer)) (sym (ap (λ o. o.state) (ckpt_end_is old passes.ckpt passes.still_open)))
+    subst (Moves old event.CkptEnd (Ok answer))
+    (sym (ap (λ o. o.state) (ckpt_end_is old passes.ckpt passes.still_open)))
     (Completes passes (λ beside. beside) (λ leaves. leaves) tt refl)
 answered old event.CopyFull answer none given =
     let some = full_passes old none in
@@ -315,13 +326,13 @@ failed old (event.WriteEnd page) StoreFault new none fails = elim (stored_or_not
   | inl is ↦ same old (event.WriteEnd page) (Err StoreFault) new refl is
   | inr stored ↦
       let within = (write_end_passes old page none).within in
-      subst (Moves old (event.WriteEnd page) (Err StoreFault)) (sym stored.2) (Keeps Here refl (one (Stored page stored.0 _ _
-      (GoesOn (record { within = within; image = stored.0; there = stored.1 })))))
+      let ends : WriteEnds old page = record { within = within; image = stored.0; there = stored.1 } in
+      subst (Moves old (event.WriteEnd page) (Err StoreFault)) (sym stored.2)
+      (Keeps Here refl (one (Stored page stored.0 _ _ (GoesOn ends))))
 ]
 failed old event.CkptEnd LogFault new none fails =
     let passes = ckpt_end_passes old none in
     let closes = closed_part old new fails in
-    let is = closes.1 in
     Adds (end_ckpt_record old closes.0) Here
     (MakesEndChkpt closes.0 (λ beside. beside) closes.1 passes.done passes.room) tt tt refl
     (part (closed old closes.0) _ _ new _ (omega arith) closes.2)
@@ -331,9 +342,11 @@ failed old (event.Repair copy page) LogFault new none fails =
     Keeps Here refl (part old _ _ new _ (up_to_is_record old (page_now old page).lsn) fails)
 failed old (event.Repair copy page) StoreFault new none fails = elim fails [
   | inl is ↦
-      subst (Moves old (event.Repair copy page) (Err StoreFault)) (sym is) (Keeps Here refl (one (through old _ _ page)))
+      subst (Moves old (event.Repair copy page) (Err StoreFault)) (sym is)
+      (Keeps Here refl (one (through old _ _ page)))
   | inr is ↦
-      subst (Moves old (event.Repair copy page) (Err StoreFault)) (sym is) (Keeps Here refl (Then (through old _ _ page)
+      subst (Moves old (event.Repair copy page) (Err StoreFault)) (sym is)
+      (Keeps Here refl (Then (through old _ _ page)
       (one (Stored page _ _ _ (RepairsHalf (idle_then old copy page none))))))
 ]
 failed old (event.Extend count) StoreFault new none fails =

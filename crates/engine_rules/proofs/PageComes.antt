@@ -12,24 +12,22 @@ use Rattle.log_records.specs.Image.{image}
 use Rattle.log_records.specs.Record.{change_of, own_lsn}
 use Rattle.log_records.specs.declared.page_change.PageChange.{PageChange}
 use Rattle.log_records.specs.declared.record.Record.{Record}
-use Rattle.log_records.proofs.Public.{change_within}
-use Rattle.log_records.proofs.Public.{rec_later}
-use Rattle.log_records.proofs.Public.{number-image}
+use Rattle.log_records.proofs.Public.{change_within, rec_later, number-image}
 use Rattle.log_rules.specs.declared.pending_change.PendingChange.{PendingChange}
-use Rattle.log_rules.specs.Transactions.{last_of, pending}
+use Rattle.log_rules.specs.Transactions.{is_open, last_of, pending}
 use Rattle.buffer_pool.specs.Frames.{IsResident, fetched, is_resident, with_room}
 use Rattle.buffer_pool.specs.Pool.{is_clean}
 use Rattle.buffer_pool.proofs.Public.{all_stay, dirty_kept, resident_last}
 use Rattle.engine_calls.specs.declared.event.Event.{Event}
 use Rattle.engine_calls.specs.declared.event.Event.TheVariants as event
 use Rattle.page_core.specs.declared.change.ChangeKind.TheVariants as kind
-use Rattle.engine_rules.specs.EngineState.{AreCounted, AreHeld, AreImages, AreStable, EngineState, IsFit, comp_record, end, log_of}
-use Rattle.engine_rules.specs.EngineState.{page_needed, rec_lsn_of, stored_page, taken_back, with_page}
-use Rattle.engine_rules.specs.EngineState.{volume_pages}
+use Rattle.engine_rules.specs.EngineState.{AreCounted, AreHeld, AreImages, AreStable, EngineState}
+use Rattle.engine_rules.specs.EngineState.{IsFit, comp_record, end, log_of, page_needed, rec_lsn_of}
+use Rattle.engine_rules.specs.EngineState.{stored_page, taken_back, with_page, volume_pages}
 use Rattle.engine_rules.specs.Refusal.{refusal}
 use Rattle.engine_rules.proofs.PageLaws.{clean_is_stored}
-use Rattle.engine_rules.proofs.Refusals.{change_passes, read_passes}
-use Rattle.engine_rules.proofs.Makes.{makes}
+use Rattle.engine_rules.proofs.Refusals.{back_passes, change_passes, read_passes, undo_passes}
+use Rattle.engine_rules.proofs.Makes.{MakesComp, taken_is_last}
 use Rattle.engine_rules.proofs.Stands.{stands}
 
 -- ---- the page that comes in
@@ -94,6 +92,13 @@ fetched_fit s p fit within =
 
 -- ---- the page that a call needs
 
+-- a change that is taken back is one of a page of the volume
+comp_within : (s : EngineState) (txn : ℕ) (p : PendingChange) → IsFit s → is_open s.log txn ≡ true
+    → last_of (pending s.log txn) ≡ Some p → p.page < volume_pages s
+comp_within s txn p fit still_open last =
+    change_within (volume_pages s) (comp_record s txn p)
+    (stands s event.Force (comp_record s txn p) fit tt (MakesComp txn p still_open last)).within
+
 -- it is one of the volume
 pub needed_within : (s : EngineState) (event : Event) → IsFit s → refusal s event ≡ None
     → IfSome (page_needed s event) (λ p. p < volume_pages s)
@@ -106,16 +111,14 @@ needed_within s (event.UndoStep txn) fit none = by_last (last_of (pending s.log 
         → IfSome (option_map (λ p. p.page) o) (λ p. p < volume_pages s)
     by_last None e = tt
     by_last (Some p) e =
-        let r = comp_record s txn p in
-        change_within (volume_pages s) r (stands s (event.UndoStep txn) r fit tt (makes s (event.UndoStep txn) r none (rw e refl))).within
+        comp_within s txn p fit (undo_passes s txn none).still_open e
 needed_within s (event.UndoTo txn at) fit none = by_taken (taken_back s txn at) refl
   where
     by_taken : (o : Option PendingChange) → taken_back s txn at ≡ o
         → IfSome (option_map (λ p. p.page) o) (λ p. p < volume_pages s)
     by_taken None e = tt
     by_taken (Some p) e =
-        let r = comp_record s txn p in
-        change_within (volume_pages s) r (stands s (event.UndoTo txn at) r fit tt (makes s (event.UndoTo txn at) r none (rw e refl))).within
+        comp_within s txn p fit (back_passes s txn at none).still_open (taken_is_last s txn at p e)
 needed_within s other fit none = tt
 
 -- ---- a page that is dirty with a record more

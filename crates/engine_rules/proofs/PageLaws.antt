@@ -9,8 +9,8 @@ use Rattle.engine_calls.specs.declared.event.Answer.TheVariants as answer
 use Rattle.engine_calls.specs.declared.event.Event.{Event}
 use Rattle.engine_calls.specs.declared.event.Event.TheVariants as event
 use Rattle.engine_calls.specs.declared.refusal.Refusal.{Refusal}
-use Rattle.engine_rules.specs.EngineState.{EngineState, IsFit, effect, ended_write, log_of, page_now, rec_lsn_of}
-use Rattle.engine_rules.specs.EngineState.{volume_pages}
+use Rattle.engine_rules.specs.EngineState.{EngineState, IsFit, effect, ended_write, log_of}
+use Rattle.engine_rules.specs.EngineState.{page_now, rec_lsn_of, volume_pages}
 use Rattle.engine_rules.specs.Refusal.{refusal}
 use Rattle.engine_rules.specs.Run.{Run}
 use Rattle.engine_rules.specs.Step.{Step}

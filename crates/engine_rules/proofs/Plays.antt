@@ -1,6 +1,6 @@
 -- A run that goes on by one step, and what its replies tell of the device.
-use Rattle.std.proofs.Common.{◌≡◌, ◌⊎◌, ℕ, ◌+◌, ◌<◌, ◌≤◌, ◌++◌, List, [], ◌∷◌, length, refl, ap, subst, ◌∙◌, arith}
-use Rattle.std.proofs.Common.{inl, inr}
+use Rattle.std.proofs.Common.{◌≡◌, ◌⊎◌, ℕ, ◌+◌, ◌<◌, ◌≤◌, ◌++◌, List, [], ◌∷◌, length, refl, ap}
+use Rattle.std.proofs.Common.{subst, ◌∙◌, arith, inl, inr}
 use Rattle.std.specs.Prelude.{Result, Ok, Err, All, Any, IfErr, OnOk}
 use Rattle.std.proofs.lemmas.List.{length_push}
 use Rattle.std.proofs.lemmas.List.Elements.{All-push, Contains-append_left}
@@ -8,7 +8,8 @@ use Rattle.std.proofs.lemmas.List.Quantifiers.{Any-push}
 use Rattle.engine_calls.specs.declared.event.Answer.{Answer}
 use Rattle.engine_calls.specs.declared.event.Event.{Event}
 use Rattle.engine_calls.specs.declared.refusal.Refusal.{Refusal}
-use Rattle.engine_calls.specs.declared.refusal.Refusal.TheVariants.{CommitUnsure, LogFault, StoreFault}
+use Rattle.engine_calls.specs.declared.refusal.Refusal.TheVariants.{CommitUnsure, LogFault}
+use Rattle.engine_calls.specs.declared.refusal.Refusal.TheVariants.{StoreFault}
 use Rattle.log_records.specs.Log.{lsn_of}
 use Rattle.log_store.specs.Stores.{StoreCall, SyncCall, nothing}
 use Rattle.page_store.specs.Store.{GrowCall, ReadCall, WriteCall}
@@ -16,10 +17,10 @@ use Rattle.engine_rules.specs.Asked.{Asks, FailsAsking, asked}
 use Rattle.engine_rules.specs.EngineState.{EngineState, EngineView, end, new_state}
 use Rattle.engine_rules.specs.Run.{Run}
 use Rattle.engine_calls.specs.declared.event.Event.TheVariants as event
-use Rattle.engine_rules.specs.Step.{FailsForcing, Forces, IsAtRepair, IsByDevice, IsByStore, IsFaultReply}
-use Rattle.engine_rules.specs.Step.{Step}
-use Rattle.engine_rules.specs.Step.{TellsOfFault}
-use Rattle.engine_rules.specs.Storage.{CallOn, CallsDevice, CallsStore, IsStoredOn, PlaysOn, RunOn, Storage}
+use Rattle.engine_rules.specs.Step.{FailsForcing, Forces, IsAtRepair, IsByDevice, IsByStore}
+use Rattle.engine_rules.specs.Step.{IsFaultReply, Step, TellsOfFault}
+use Rattle.engine_rules.specs.Storage.{CallOn, CallsDevice, CallsStore, IsStoredOn, PlaysOn, RunOn}
+use Rattle.engine_rules.specs.Storage.{Storage}
 use Rattle.engine_rules.proofs.Moves.{stored_or_not}
 use Rattle.engine_rules.proofs.Steps.{stays_or_grows}
 

@@ -1,7 +1,8 @@
 -- What an event that is not refused has passed.
-use Rattle.std.proofs.Common.{◌≡◌, ℕ, ◌+◌, ◌<◌, ◌≤◌, Bool, true, false, ◌&&◌, ◌||◌, not, length, refl, sym, ap, ◌∙◌}
-use Rattle.std.proofs.Common.{subst}
-use Rattle.std.specs.Prelude.{IfSome, Option, Some, None, IsSome, is_none, is_some, nat_le, nat_lt, List, if◌then◌else◌}
+use Rattle.std.proofs.Common.{◌≡◌, ℕ, ◌+◌, ◌<◌, ◌≤◌, Bool, true, false, ◌&&◌, ◌||◌, not, length}
+use Rattle.std.proofs.Common.{refl, sym, ap, ◌∙◌, subst}
+use Rattle.std.specs.Prelude.{IfSome, Option, Some, None, IsSome, is_none, is_some, nat_le, nat_lt}
+use Rattle.std.specs.Prelude.{List, if◌then◌else◌}
 use Rattle.std.specs.Option.{option_map, option_map_or, option_or}
 use Rattle.std.proofs.lemmas.Option.{cond_some, same_Some}
 use Rattle.std.proofs.lemmas.Bool.{not-false, leb-false, ltb-false, ltb-true}
@@ -15,7 +16,8 @@ use Rattle.log_records.specs.declared.limits.TheConstants.{MAX_OPEN, MAX_RECORDS
 use Rattle.log_records.specs.declared.record.Record.{Record}
 use Rattle.log_rules.specs.Checkpoint.{Checkpoint, open_checkpoint}
 use Rattle.log_rules.specs.Savepoints.{savepoint}
-use Rattle.log_rules.specs.Transactions.{holder, is_open, is_rolling, last_of, open_in, owed, pending}
+use Rattle.log_rules.specs.Transactions.{holder, is_open, is_rolling, last_of, open_in, owed}
+use Rattle.log_rules.specs.Transactions.{pending}
 use Rattle.log_rules.specs.declared.pending_change.PendingChange.{PendingChange}
 use Rattle.fuzzy_ckpt.specs.declared.point.Point.{Point}
 use Rattle.copy_vault.specs.declared.fault.CopyFault.{CopyFault}
@@ -23,22 +25,27 @@ use Rattle.copy_vault.specs.declared.copy_id.TheConstants.{MAX_COPIES}
 use Rattle.copy_vault.specs.declared.fault.CopyFault.TheVariants as fault
 use Rattle.copy_vault.specs.declared.fault.CopyFault.TheVariants.{PagesLeft}
 use Rattle.copy_vault.specs.Copy.{CopyView, least_undecided}
-use Rattle.copy_vault.specs.Vault.{CopyState, complete, complete_refusal, drop_refusal, dropped, open_refusal, reading}
-use Rattle.copy_vault.specs.Vault.{seal_refusal, state_of}
+use Rattle.copy_vault.specs.Vault.{CopyState, complete, complete_refusal, drop_refusal, dropped}
+use Rattle.copy_vault.specs.Vault.{open_refusal, reading, seal_refusal, state_of}
 use Rattle.engine_calls.specs.declared.event.Event.{Event}
 use Rattle.engine_calls.specs.declared.event.Event.TheVariants as event
 use Rattle.engine_calls.specs.declared.refusal.Refusal.{Refusal}
-use Rattle.engine_calls.specs.declared.refusal.Refusal.TheVariants.{CkptOpen, CommitUnsure, GatherLeft, LogFault, LogFull, NoCkpt}
-use Rattle.engine_calls.specs.declared.refusal.Refusal.TheVariants.{NoMaster, NoTxn, PageDecided, NoWrite, NotDirty}
-use Rattle.engine_calls.specs.declared.refusal.Refusal.TheVariants.{NotRolling, PageOut, SlotBusy, SlotOut, TooManyTxns}
-use Rattle.engine_calls.specs.declared.refusal.Refusal.TheVariants.{NoSavepoint, NotLarger, PoolFull, TxnRolling, WriteBegun}
-use Rattle.engine_rules.specs.EngineState.{EngineState, gathered_record, image_of, page_needed, rec_lsn_of, taken_back}
-use Rattle.engine_rules.specs.EngineState.{volume_pages}
+use Rattle.engine_calls.specs.declared.refusal.Refusal.TheVariants.{CkptOpen, CommitUnsure}
+use Rattle.engine_calls.specs.declared.refusal.Refusal.TheVariants.{GatherLeft, LogFault, LogFull}
+use Rattle.engine_calls.specs.declared.refusal.Refusal.TheVariants.{NoCkpt, NoMaster, NoTxn}
+use Rattle.engine_calls.specs.declared.refusal.Refusal.TheVariants.{PageDecided, NoWrite, NotDirty}
+use Rattle.engine_calls.specs.declared.refusal.Refusal.TheVariants.{NotRolling, PageOut, SlotBusy}
+use Rattle.engine_calls.specs.declared.refusal.Refusal.TheVariants.{SlotOut, TooManyTxns}
+use Rattle.engine_calls.specs.declared.refusal.Refusal.TheVariants.{NoSavepoint, NotLarger}
+use Rattle.engine_calls.specs.declared.refusal.Refusal.TheVariants.{PoolFull, TxnRolling}
+use Rattle.engine_calls.specs.declared.refusal.Refusal.TheVariants.{WriteBegun}
+use Rattle.engine_rules.specs.EngineState.{EngineState, gathered_record, image_of, page_needed}
+use Rattle.engine_rules.specs.EngineState.{rec_lsn_of, taken_back, volume_pages}
 use Rattle.engine_rules.specs.Gather.{Left, is_done, none_left, pages_left, txns_left}
-use Rattle.engine_rules.specs.Refusal.{active_refusal, change_refusal, ckpt_refusal, copy_refusal, has_no_room}
+use Rattle.engine_rules.specs.Refusal.{active_refusal, change_refusal, ckpt_refusal, copy_refusal}
+use Rattle.engine_rules.specs.Refusal.{has_no_room, frame_refusal, or_else, page_refusal}
+use Rattle.engine_rules.specs.Refusal.{refused_if, refusal, rolling_refusal, pages_in}
 use Rattle.engine_calls.specs.Refusal.{of_vault}
-use Rattle.engine_rules.specs.Refusal.{frame_refusal, or_else, page_refusal, refused_if, refusal, rolling_refusal}
-use Rattle.engine_rules.specs.Refusal.{pages_in}
 use Rattle.engine_rules.specs.Step.{IsByDevice}
 
 -- ---- one test, and two
@@ -273,7 +280,8 @@ needs_no_room s (event.UndoStep txn) is =
     both _ _ _ (both _ _ _ (test _ _ NoTxn (λ h. h)) (test _ _ NotRolling (λ h. h))) (never_framed s _)
 needs_no_room s (event.Savepoint txn) is = of_active IsFull s txn (λ h. h) (λ h. h)
 needs_no_room s (event.UndoTo txn at) is =
-    both _ _ _ (of_active IsFull s txn (λ h. h) (λ h. h)) (both _ _ _ (test _ _ NoSavepoint (λ h. h)) (never_framed s _))
+    both _ _ _ (of_active IsFull s txn (λ h. h) (λ h. h))
+    (both _ _ _ (test _ _ NoSavepoint (λ h. h)) (never_framed s _))
 needs_no_room s event.Force is = record { due = λ why is. absurd (cc) }
 needs_no_room s (event.WriteBegin page) is =
     both _ _ _ (test _ _ PageOut (λ h. h)) (both _ _ _ (test _ _ WriteBegun (λ h. h)) (test _ _ NotDirty (λ h. h)))

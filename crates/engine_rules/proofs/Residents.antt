@@ -1,6 +1,6 @@
 -- The pages in memory: at most as many as there are frames, and each of them once.
-use Rattle.std.proofs.Common.{◌≡◌, ℕ, ◌+◌, ◌<◌, ◌≤◌, ◌++◌, ◌||◌, Bool, true, false, cond, List, [], ◌∷◌, length, map}
-use Rattle.std.proofs.Common.{nat_eq, refl, sym, ap, subst, ◌∙◌, arith, inl, inr}
+use Rattle.std.proofs.Common.{◌≡◌, ℕ, ◌+◌, ◌<◌, ◌≤◌, ◌++◌, ◌||◌, Bool, true, false, cond, List, []}
+use Rattle.std.proofs.Common.{◌∷◌, length, map, nat_eq, refl, sym, ap, subst, ◌∙◌, arith, inl, inr}
 use Rattle.std.specs.Prelude.{◌==◌, Option, None, IfSome, Result}
 use Rattle.std.specs.List.{All, AllByRecursion, IsDistinct, list_any}
 use Rattle.std.proofs.lemmas.Bool.{cases_lt, not-false}
@@ -19,8 +19,8 @@ use Rattle.buffer_pool.proofs.Public.{numbers_later}
 use Rattle.engine_calls.specs.declared.event.Answer.{Answer}
 use Rattle.engine_calls.specs.declared.event.Event.{Event}
 use Rattle.engine_calls.specs.declared.refusal.Refusal.{Refusal}
-use Rattle.engine_rules.specs.EngineState.{EngineState, IsFit, end_ckpt_record, extend_record, new_state, stored_page, with_page}
-use Rattle.engine_rules.specs.EngineState.{volume_pages}
+use Rattle.engine_rules.specs.EngineState.{EngineState, IsFit, end_ckpt_record, extend_record}
+use Rattle.engine_rules.specs.EngineState.{new_state, stored_page, with_page, volume_pages}
 use Rattle.engine_calls.specs.EventFits.{EventFits}
 use Rattle.engine_rules.specs.Refusal.{frame_refusal}
 use Rattle.engine_rules.specs.Run.{Run}
@@ -29,7 +29,8 @@ use Rattle.engine_rules.proofs.Fit.{fit_of_step, new_is_fit}
 use Rattle.engine_rules.proofs.Runs.{frames_of_run}
 use Rattle.engine_rules.proofs.PageComes.{needed_within, number_is}
 use Rattle.engine_rules.proofs.Refusals.{frame_passes, needed_passes}
-use Rattle.engine_rules.proofs.Moves.{Adds, Completes, Extends, Fetched, Here, Keeps, Moves, Start, moves}
+use Rattle.engine_rules.proofs.Moves.{Adds, Completes, Extends, Fetched, Here, Keeps, Moves, Start}
+use Rattle.engine_rules.proofs.Moves.{moves}
 use Rattle.engine_rules.proofs.Steps.{rest_memory, step_leaves}
 
 pub record AreFramed (frames : ℕ) (pages : List Page) : Type 0 where

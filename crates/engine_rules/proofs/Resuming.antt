@@ -1,8 +1,7 @@
 -- An engine that goes on where an older one was lost is fit.
-use Rattle.std.proofs.Common.{◌≡◌, ℕ, ◌<◌, List, [], ◌∷◌, length, get_or, take, refl, sym, ap, subst, ◌∙◌}
-use Rattle.std.proofs.Common.{arith, true}
+use Rattle.std.proofs.Common.{◌≡◌, ℕ, ◌<◌, List, [], ◌∷◌, length, get_or, take, refl, sym, ap}
+use Rattle.std.proofs.Common.{subst, ◌∙◌, arith, true, inl, inr, suc, drop, drop-cons, ◌++◌}
 use Rattle.std.specs.Prelude.{Contains, Option, Some, None, IfSome, IsSome, IsSomeAnd, is_none}
-use Rattle.std.proofs.Common.{inl, inr, suc, drop, drop-cons, ◌++◌}
 use Rattle.std.proofs.Math.Bool.{false≢true}
 use Rattle.std.proofs.Math.ListN.{get_or-map}
 use Rattle.std.proofs.lemmas.Bool.{cases_lt}
@@ -18,15 +17,15 @@ use Rattle.log_records.proofs.Public.{image_is_clean}
 use Rattle.log_records.specs.Image.{image, redo_all}
 use Rattle.log_records.specs.Log.{IsLog, Log, lsn_of, page_count}
 use Rattle.log_records.specs.Record.{own_lsn}
-use Rattle.log_rules.specs.Checkpoint.{Checkpoint, IsCompleteCheckpoint, open_checkpoint, redo_point}
+use Rattle.log_rules.specs.Checkpoint.{Checkpoint, IsCompleteCheckpoint, open_checkpoint}
+use Rattle.log_rules.specs.Checkpoint.{redo_point}
 use Rattle.log_rules.specs.Linked.{HasOldTxns, IsLinked, MayEnd, MayFollow}
 use Rattle.log_rules.specs.Transactions.{open_in}
 use Rattle.log_rules.proofs.Public.{end-of_complete}
 use Rattle.log_store.specs.WrittenLog.{WrittenLog}
-use Rattle.buffer_pool.specs.Pool.{PageState, PoolView, clean_pool, is_clean, stored_as_now, stored_states}
-use Rattle.buffer_pool.specs.Pool.{unwritten, writing_of, written_of}
-use Rattle.buffer_pool.proofs.Public.{pool_resumed, state_of_page}
-use Rattle.buffer_pool.proofs.Public.{image_below}
+use Rattle.buffer_pool.specs.Pool.{PageState, PoolView, clean_pool, is_clean, stored_as_now}
+use Rattle.buffer_pool.specs.Pool.{stored_states, unwritten, writing_of, written_of}
+use Rattle.buffer_pool.proofs.Public.{pool_resumed, state_of_page, image_below}
 use Rattle.fuzzy_ckpt.specs.declared.point.Point.{Point}
 use Rattle.fuzzy_ckpt.specs.Ckpt.{AllCover, CkptView, Phase}
 use Rattle.fuzzy_ckpt.specs.LogCheckpoints.{IsLastPoint, gathered_of}
@@ -35,7 +34,8 @@ use Rattle.copy_vault.specs.Copy.{CopyView}
 use Rattle.copy_vault.specs.Vault.{CopyState, complete, dropped, reading, state_of}
 use Rattle.copy_coverage.specs.Copied.{AreCopied, copy_in}
 use Rattle.copy_coverage.specs.Retired.{HasRoomForUndo}
-use Rattle.engine_rules.specs.EngineState.{HaveMaster, IsFit, IsGathering, IsMasterOf, MediaView, engine_view}
+use Rattle.engine_rules.specs.EngineState.{HaveMaster, IsFit, IsGathering, IsMasterOf, MediaView}
+use Rattle.engine_rules.specs.EngineState.{engine_view}
 use Rattle.engine_rules.specs.Gather.{Left, left_of, none_left, pages_left, session_of}
 use Rattle.engine_rules.specs.Resumed.{MayResume, resumed_state}
 

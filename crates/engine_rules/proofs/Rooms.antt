@@ -1,6 +1,6 @@
 -- The log has room for its records and for those that open transactions may still need.
-use Rattle.std.proofs.Common.{◌≡◌, ℕ, ◌+◌, ◌<◌, ◌≤◌, false, ◌++◌, List, [], ◌∷◌, length, refl, sym, subst, take, ◌∙◌, arith}
-use Rattle.std.proofs.Common.{inl, inr}
+use Rattle.std.proofs.Common.{◌≡◌, ℕ, ◌+◌, ◌<◌, ◌≤◌, false, ◌++◌, List, [], ◌∷◌, length, refl, sym}
+use Rattle.std.proofs.Common.{subst, take, ◌∙◌, arith, inl, inr}
 use Rattle.std.specs.Prelude.{Some, None, Ok}
 use Rattle.std.proofs.lemmas.Bool.{cases_lt}
 use Rattle.std.proofs.lemmas.List.{length_push, take-append-le, take_all}
@@ -12,22 +12,25 @@ use Rattle.log_records.specs.declared.record.Record.{Record}
 use Rattle.log_records.specs.declared.record.Record.TheVariants as log
 use Rattle.log_rules.specs.Linked.{MayFollow, number_in}
 use Rattle.log_rules.specs.Transactions.{begun_by, is_last, last_lsn, owed, txn_of}
-use Rattle.log_rules.proofs.Public.{claimed_aside, claimed_begin, claimed_push, claimed_update, needs}
+use Rattle.log_rules.proofs.Public.{claimed_aside, claimed_begin, claimed_push, claimed_update}
+use Rattle.log_rules.proofs.Public.{needs}
 use Rattle.engine_calls.specs.declared.event.Event.{Event}
 use Rattle.engine_calls.specs.declared.event.Event.TheVariants as event
 use Rattle.engine_calls.specs.declared.refusal.Refusal.TheVariants.{LogFull}
-use Rattle.engine_rules.specs.EngineState.{EngineState, IsFit, Outcome, begin_ckpt_record, effect, end, end_ckpt_record}
-use Rattle.engine_rules.specs.EngineState.{extend_record, next_txn, update_record}
+use Rattle.engine_rules.specs.EngineState.{EngineState, IsFit, Outcome, begin_ckpt_record, effect}
+use Rattle.engine_rules.specs.EngineState.{end, end_ckpt_record, extend_record, next_txn}
+use Rattle.engine_rules.specs.EngineState.{update_record}
 use Rattle.engine_rules.specs.Refusal.{refusal}
-use Rattle.engine_rules.proofs.Gathers.{PassesPages, PassesTxns, TakesPages, TakesTxn, WasDone, ckpt_end_is, gather_case}
-use Rattle.engine_rules.proofs.Gathers.{pages_record, passes_pages, passes_txns, takes_pages, takes_txn, txn_entry}
-use Rattle.engine_rules.proofs.Gathers.{was_done}
+use Rattle.engine_rules.proofs.Gathers.{PassesPages, PassesTxns, TakesPages, TakesTxn, WasDone}
+use Rattle.engine_rules.proofs.Gathers.{ckpt_end_is, gather_case, pages_record, passes_pages}
+use Rattle.engine_rules.proofs.Gathers.{passes_txns, takes_pages, takes_txn, txn_entry, was_done}
 use Rattle.engine_rules.proofs.Steps.{stays_or_grows}
 use Rattle.engine_rules.proofs.Follows.{add_follows, made_follows, set_follows}
-use Rattle.engine_rules.proofs.Makes.{Makes, MakesAdd, MakesBegin, MakesBeginChkpt, MakesEndChkpt, MakesExtend, MakesPages}
-use Rattle.engine_rules.proofs.Makes.{MakesSet, MakesTxn, none_is_not_some}
-use Rattle.engine_rules.proofs.Refusals.{GatherIsFull, HasRoomFor, begin_full, change_full, ckpt_begin_full}
-use Rattle.engine_rules.proofs.Refusals.{ckpt_end_full, extend_full, gather_full, never_full}
+use Rattle.engine_rules.proofs.Makes.{Makes, MakesAdd, MakesBegin, MakesBeginChkpt, MakesEndChkpt}
+use Rattle.engine_rules.proofs.Makes.{MakesExtend, MakesPages, MakesSet, MakesTxn, none_is_not_some}
+use Rattle.engine_rules.proofs.Refusals.{GatherIsFull, HasRoomFor, begin_full, change_full}
+use Rattle.engine_rules.proofs.Refusals.{ckpt_begin_full, ckpt_end_full, extend_full, gather_full}
+use Rattle.engine_rules.proofs.Refusals.{never_full}
 
 -- ---- an accepted call
 

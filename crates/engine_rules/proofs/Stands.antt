@@ -13,18 +13,20 @@ use Rattle.log_records.specs.Log.{StandsAt}
 use Rattle.log_records.specs.Record.{IsBefore, IsChange, IsLsn, IsRecord, IsTxn}
 use Rattle.log_rules.specs.Transactions.{is_open, last_lsn, last_of, pending}
 use Rattle.engine_calls.specs.declared.event.Event.{Event}
-use Rattle.engine_rules.specs.EngineState.{EngineState, IsFit, abort_record, commit_record, comp_record, end, end_record}
-use Rattle.engine_rules.specs.EngineState.{log_of, next_txn, update_record}
-use Rattle.engine_rules.specs.EngineState.{volume_pages}
+use Rattle.engine_rules.specs.EngineState.{EngineState, IsFit, abort_record, commit_record}
+use Rattle.engine_rules.specs.EngineState.{comp_record, end, end_record, log_of, next_txn}
+use Rattle.engine_rules.specs.EngineState.{update_record, volume_pages}
 use Rattle.engine_calls.specs.EventFits.{EventFits}
-use Rattle.log_rules.proofs.Public.{StandsBefore, all_stand, last_lsn_is_before, last_pending, length_begun}
-use Rattle.log_rules.proofs.Public.{lsn_is_lsn, open_is_txn, undo_fits, undo_has_no_before}
+use Rattle.log_rules.proofs.Public.{StandsBefore, all_stand, last_lsn_is_before, last_pending}
+use Rattle.log_rules.proofs.Public.{length_begun, lsn_is_lsn, open_is_txn, undo_fits}
+use Rattle.log_rules.proofs.Public.{undo_has_no_before}
 use Rattle.engine_rules.proofs.GatherSteps.{end_ckpt_stands, pages_stand, txn_stand}
 use Rattle.engine_rules.proofs.Numbers.{number_fits}
 use Rattle.log_records.proofs.Public.{page_count-is_count}
 use Rattle.engine_rules.proofs.Refusals.{ChangePasses}
-use Rattle.engine_rules.proofs.Makes.{Makes, MakesAbort, MakesAdd, MakesBegin, MakesBeginChkpt, MakesCommit, MakesComp}
-use Rattle.engine_rules.proofs.Makes.{MakesEnd, MakesEndChkpt, MakesExtend, MakesPages, MakesSet, MakesTxn}
+use Rattle.engine_rules.proofs.Makes.{Makes, MakesAbort, MakesAdd, MakesBegin, MakesBeginChkpt}
+use Rattle.engine_rules.proofs.Makes.{MakesCommit, MakesComp, MakesEnd, MakesEndChkpt, MakesExtend}
+use Rattle.engine_rules.proofs.Makes.{MakesPages, MakesSet, MakesTxn}
 
 abbrev pub StandsAtEnd : EngineState → Record → Type 0
 StandsAtEnd s r = StandsAt (volume_pages s) (end s) r

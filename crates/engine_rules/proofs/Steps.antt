@@ -1,21 +1,22 @@
 -- What a step leaves as it is, and what it does to the log.
-use Rattle.std.proofs.Common.{◌≡◌, ℕ, ◌≤◌, ◌++◌, ◌⊎◌, List, [], ◌∷◌, length, refl, ◌∙◌, arith, inl, inr}
+use Rattle.std.proofs.Common.{◌≡◌, ℕ, ◌++◌, ◌⊎◌, List, [], ◌∷◌, refl, ◌∙◌, arith, inl, inr}
 use Rattle.std.specs.Prelude.{None, Option, Result}
 use Rattle.page_core.specs.declared.page.Page.{Page}
 use Rattle.std.proofs.lemmas.List.{length_push}
 use Rattle.log_records.specs.declared.record.Record.{Record}
-use Rattle.log_records.specs.Log.{lsn_of}
 use Rattle.log_rules.specs.Work.{call_of}
 use Rattle.engine_calls.specs.declared.event.Answer.{Answer}
 use Rattle.engine_calls.specs.declared.event.Event.{Event}
 use Rattle.engine_calls.specs.declared.refusal.Refusal.{Refusal}
 use Rattle.engine_rules.specs.Accepted.{shown_call}
-use Rattle.engine_rules.specs.EngineState.{EngineState, closed, end_ckpt_record, extend_record}
+use Rattle.engine_rules.specs.EngineState.{EngineState, appended, closed, end_ckpt_record}
+use Rattle.engine_rules.specs.EngineState.{extend_record}
 use Rattle.engine_rules.specs.Step.{Step}
 use Rattle.engine_rules.proofs.Forces.{EndsAtRecord, Forces, all_forces}
 use Rattle.engine_rules.proofs.Makes.{IsBeside, Makes, MakesEndChkpt, MakesExtend, left_stays}
-use Rattle.engine_rules.proofs.Moves.{Adds, Completes, Copied, Done, Ends, Extends, Forced, Gathered, GoesOn}
-use Rattle.engine_rules.proofs.Moves.{Keeps, LeavesCopies, LeavesMaster, LeavesWritten, Moves, Repairs, RepairsHalf, Rest, Stored}
+use Rattle.engine_rules.proofs.Moves.{Adds, Completes, Copied, Done, Ends, Extends, Forced}
+use Rattle.engine_rules.proofs.Moves.{Gathered, GoesOn, Keeps, LeavesCopies, LeavesMaster}
+use Rattle.engine_rules.proofs.Moves.{LeavesWritten, Moves, Repairs, RepairsHalf, Rest, Stored}
 use Rattle.engine_rules.proofs.Moves.{Storing, Then, moves}
 use Rattle.engine_rules.proofs.Refusals.{extend_passes}
 
@@ -117,7 +118,7 @@ rest_forces event reply s t ends (Then (Forced lsn forces) rest) =
     (later.0, omega (arith, first.1, later.1))
 rest_forces event reply s t ends (Then other rest) = rest_forces event reply _ t ends rest
 
-longer : (s : EngineState) (r : Record) → EndsAtRecord s → (k : ℕ) × (k ≤ length (s.log ++ r ∷ [])) × (s.forced_end ≡ lsn_of k)
+longer : (s : EngineState) (r : Record) → EndsAtRecord s → EndsAtRecord (appended s r)
 longer s r (k, le, e) = (k, omega (arith, length_push s.log r), e)
 
 moves_force : (old : EngineState) (event : Event) (reply : Result Answer Refusal) (new : EngineState) → EndsAtRecord old

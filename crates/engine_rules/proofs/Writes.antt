@@ -1,29 +1,31 @@
 -- A write of a page begins, or a page is stored: an engine that was fit stays so.
-use Rattle.std.proofs.Common.{◌≡◌, ℕ, ◌*◌, ◌<◌, ◌≤◌, Bool, true, false, cond, List, [], ◌∷◌, length, filter, get_or, set, take}
-use Rattle.std.proofs.Common.{◌⊎◌, refl, sym, ap, subst, ◌∙◌, arith, inl, inr, true≢false}
+use Rattle.std.proofs.Common.{◌≡◌, ℕ, ◌*◌, ◌<◌, ◌≤◌, Bool, true, false, cond, List, [], ◌∷◌, length}
+use Rattle.std.proofs.Common.{filter, get_or, set, take, ◌⊎◌, refl, sym, ap, subst, ◌∙◌, arith, inl}
+use Rattle.std.proofs.Common.{inr, true≢false}
 use Rattle.std.specs.Prelude.{Option, Some, None, IfSome, Result, is_none, nat_lt}
 use Rattle.std.proofs.lemmas.Bool.{cases_eq, cases_lt, le-ltb, ltb-false}
-use Rattle.std.proofs.lemmas.List.{get_or-set_other, get_or-set_same, get_or_past, length-set, take_all}
+use Rattle.std.proofs.lemmas.List.{get_or-set_other, get_or-set_same, get_or_past, length-set}
+use Rattle.std.proofs.lemmas.List.{take_all}
 use Rattle.std.proofs.lemmas.List.Elements.{All-set}
 use Rattle.page_core.specs.declared.page.Page.{Page}
 use Rattle.page_core.specs.Page.{formatted}
 use Rattle.log_records.specs.Coverage.{AreStored, IsWriting, changes_on, rec_lsn}
 use Rattle.log_records.specs.Least.{least}
-use Rattle.log_records.proofs.Public.{past_is_older, past_now, stored_begun, stored_ended, stored_failed}
+use Rattle.log_records.proofs.Public.{past_is_older, past_now, stored_begun, stored_ended}
+use Rattle.log_records.proofs.Public.{stored_failed, lsn-image}
 use Rattle.log_records.specs.declared.record.Record.{Record}
 use Rattle.log_records.specs.declared.record.Record.TheVariants.{Begin}
 use Rattle.log_records.specs.Image.{image}
 use Rattle.log_store.specs.WrittenLog.{end_up_to}
 use Rattle.buffer_pool.proofs.Public.{stored_half, stored_repaired}
 use Rattle.buffer_pool.specs.Pool.{is_clean}
-use Rattle.log_records.proofs.Public.{lsn-image}
 use Rattle.copy_coverage.specs.Copied.{AreCopied}
 use Rattle.copy_coverage.proofs.Public.{copied_stored}
 use Rattle.engine_calls.specs.declared.event.Answer.{Answer}
 use Rattle.engine_calls.specs.declared.event.Event.{Event}
 use Rattle.engine_calls.specs.declared.refusal.Refusal.{Refusal}
-use Rattle.engine_rules.specs.EngineState.{AreCounted, AreHeld, AreStable, EngineState, IsFit, begun_write, image_of, log_of}
-use Rattle.engine_rules.specs.EngineState.{page_now, volume_pages}
+use Rattle.engine_rules.specs.EngineState.{AreCounted, AreHeld, AreStable, EngineState, IsFit}
+use Rattle.engine_rules.specs.EngineState.{begun_write, image_of, log_of, page_now, volume_pages}
 use Rattle.engine_rules.proofs.Beside.{HasMaster, gathered_set, master_set}
 use Rattle.engine_rules.proofs.Gathers.{AreGathered}
 use Rattle.engine_rules.proofs.Moves.{Ends, GoesOn, Repairs, RepairsHalf, Storing}
