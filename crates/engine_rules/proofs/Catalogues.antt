@@ -1,39 +1,35 @@
 -- The image copies of an engine, as events and replies alone tell of them.
-use Rattle.std.proofs.Common.{◌≡◌, ℕ, zero, suc, ◌+◌, ◌-◌, ◌++◌, List, [], ◌∷◌, length, set, refl, sym, ap, ◌∙◌}
-use Rattle.std.proofs.Common.{arith, inl, inr}
-use Rattle.std.specs.Prelude.{Option, Some, None, Result, Ok, Err, map}
+use Rattle.std.proofs.Common.{◌≡◌, ℕ, zero, suc, ◌+◌, ◌-◌, ◌++◌, List, [], ◌∷◌, length, set, refl}
+use Rattle.std.proofs.Common.{sym, ap, ◌∙◌, arith}
+use Rattle.std.specs.Prelude.{Option, Result, Ok, map}
 use Rattle.std.proofs.Math.ListN.{get_or-map}
 use Rattle.std.proofs.lemmas.List.{length-map, map-append, map-set}
 use Rattle.page_core.specs.declared.page.Page.{Page}
-use Rattle.log_rules.specs.declared.pending_change.PendingChange.{PendingChange}
-use Rattle.log_rules.specs.Transactions.{last_of, pending}
 use Rattle.image_copies.specs.declared.copy_id.CopyKind.{CopyKind}
 use Rattle.image_copies.specs.declared.copy_id.CopyKind.TheVariants.{Full, Inc}
 use Rattle.image_copies.specs.declared.copy_id.Decision.{Decision}
 use Rattle.image_copies.specs.declared.copy_id.Decision.TheVariants.{Taken, Kept}
 use Rattle.image_copies.specs.Copy.{answer_of, decided_by, undecided}
-use Rattle.copy_vault.specs.Vault.{CopyState, answer_in, complete, decided_in, dropped, opened, reading, sealed_in}
-use Rattle.copy_vault.specs.Vault.{since_of, state_of, with_state}
+use Rattle.copy_vault.specs.Vault.{CopyState, answer_in, complete, decided_in, dropped, opened}
+use Rattle.copy_vault.specs.Vault.{reading, sealed_in, since_of, state_of, with_state}
 use Rattle.image_copies.proofs.Public.{map-replicate}
 use Rattle.engine_calls.specs.declared.event.Answer.{Answer}
 use Rattle.engine_calls.specs.declared.event.Answer.TheVariants as answer
 use Rattle.engine_calls.specs.declared.event.Event.{Event}
 use Rattle.engine_calls.specs.declared.event.Event.TheVariants as event
 use Rattle.engine_calls.specs.declared.refusal.Refusal.{Refusal}
-use Rattle.engine_calls.specs.declared.refusal.Refusal.TheVariants.{CommitUnsure, LogFault, OutOfMemory, StoreFault}
-use Rattle.engine_rules.specs.Catalogue.{CatalogueEntry, PageMark, answered_mark, being_read, catalogue_from, completed, entry_at}
-use Rattle.engine_rules.specs.Catalogue.{entry_of, mark_of}
-use Rattle.engine_rules.specs.Catalogue.{was_dropped, with_copy_event, with_entry, with_mark, with_next_copy}
-use Rattle.engine_rules.specs.EngineState.{EngineState, effect, image_of, opened_copy, stored_page, take_answer}
+use Rattle.engine_rules.specs.Catalogue.{CatalogueEntry, PageMark, answered_mark, being_read}
+use Rattle.engine_rules.specs.Catalogue.{catalogue_from, completed, entry_at, entry_of, mark_of}
+use Rattle.engine_rules.specs.Catalogue.{was_dropped, with_copy_event, with_entry, with_mark}
+use Rattle.engine_rules.specs.Catalogue.{with_next_copy, pages_of_point}
+use Rattle.engine_rules.specs.EngineState.{EngineState, effect, opened_copy, stored_page}
+use Rattle.engine_rules.specs.EngineState.{take_answer}
 use Rattle.engine_rules.specs.Run.{Run}
-use Rattle.engine_rules.specs.Step.{Fails, Step}
-use Rattle.engine_rules.proofs.Gathers.{ckpt_end_has, closed_part, gather_has}
+use Rattle.engine_rules.specs.Step.{Step}
 use Rattle.engine_rules.proofs.CkptLaws.{IsSized, master_of_step, notes_begun, sized_step}
-use Rattle.engine_rules.proofs.Steps.{stored_or_not}
-use Rattle.engine_rules.proofs.StepsBack.{back_has}
+use Rattle.engine_rules.proofs.Steps.{step_leaves}
 use Rattle.fuzzy_ckpt.specs.declared.point.Point.{Point}
 use Rattle.engine_rules.specs.CkptReplies.{VolumeSize, with_point, with_size}
-use Rattle.engine_rules.specs.Catalogue.{pages_of_point}
 
 -- ---- copies and their entries
 
@@ -77,30 +73,6 @@ completes dropped = refl
 
 -- ---- a step
 
-not_answered : (pages : ℕ) (es : List CatalogueEntry) (event : Event) (why : Refusal)
-    → with_copy_event pages es event (Err why) ≡ es
-not_answered pages es event.CopyFull why = refl
-not_answered pages es (event.CopyInc parent) why = refl
-not_answered pages es (event.Take copy page) why = refl
-not_answered pages es (event.Seal copy) why = refl
-not_answered pages es (event.DropCopy copy) why = refl
-not_answered pages es event why = refl
-
-same_copies : (old new state : EngineState) → new ≡ state → state.copies ≡ old.copies
-    → entries new.copies ≡ entries old.copies
-same_copies old new state is same = ap (λ (s : EngineState). entries s.copies) is ∙ ap entries same
-
-undo_copies : (old : EngineState) (txn : ℕ) (new : EngineState) (o : Option PendingChange)
-    → last_of (pending old.log txn) ≡ o → new ≡ (effect old (event.UndoStep txn)).state
-    → entries new.copies ≡ entries old.copies
-undo_copies old txn new None o is = same_copies old new _ (rw o at is) refl
-undo_copies old txn new (Some p) o is = same_copies old new _ (rw o at is) refl
-
-write_copies : (old : EngineState) (page : ℕ) (new : EngineState) (o : Option Page) → image_of old page ≡ o
-    → new ≡ (effect old (event.WriteEnd page)).state → entries new.copies ≡ entries old.copies
-write_copies old page new None o is = same_copies old new _ (rw o at is) refl
-write_copies old page new (Some image) o is = same_copies old new _ (rw o at is) refl
-
 -- the new copies are these
 made : (new state : EngineState) → new ≡ state → entries new.copies ≡ entries state.copies
 made new state is = ap (λ (s : EngineState). entries s.copies) is
@@ -119,68 +91,19 @@ took old copy page answer new given is =
     ∙ ap (λ (a : Answer). with_mark (entry_of state) page (answered_mark a)) (sym given)
     ∙ ap (λ (e : CatalogueEntry). with_mark e page (answered_mark answer)) (sym (entry_is old.copies copy)))
 
-answered : (old : EngineState) (event : Event) (answer : Answer) (new : EngineState)
-    → answer ≡ (effect old event).answer → new ≡ (effect old event).state
-    → entries new.copies ≡ with_copy_event (pages_of_point old.master) (entries old.copies) event (Ok answer)
-answered old event.Begin answer new given is = same_copies old new _ is refl
-answered old (event.Set txn page slot number) answer new given is = same_copies old new _ is refl
-answered old (event.Add txn page slot amount) answer new given is = same_copies old new _ is refl
-answered old (event.Read page slot) answer new given is = same_copies old new _ is refl
-answered old (event.Commit txn) answer new given is = same_copies old new _ is refl
-answered old (event.Abort txn) answer new given is = same_copies old new _ is refl
-answered old (event.UndoStep txn) answer new given is = undo_copies old txn new _ refl is
-answered old (event.Savepoint txn) answer new given is = same_copies old new _ is refl
-answered old (event.UndoTo txn at) answer new given is =
-    same_copies old new _ is (back_has (λ s. s.copies ≡ old.copies) old txn at refl (λ p. refl))
-answered old event.Force answer new given is = same_copies old new _ is refl
-answered old (event.WriteBegin page) answer new given is = same_copies old new _ is refl
-answered old (event.WriteEnd page) answer new given is = write_copies old page new _ refl is
-answered old event.CkptBegin answer new given is = same_copies old new _ is refl
-answered old event.CkptGather answer new given is =
-    same_copies old new _ is (gather_has (λ s. s.copies ≡ old.copies) old refl (λ left. refl) (λ r left. refl))
-answered old event.CkptEnd answer new given is =
-    same_copies old new _ is (ckpt_end_has (λ s. s.copies ≡ old.copies) old refl (λ c. refl))
-answered old (event.Repair copy page) answer new given is = same_copies old new _ is refl
-answered old (event.Extend count) answer new given is = same_copies old new _ is refl
-answered old event.CopyFull answer new given is = made new _ is ∙ opens old.copies Full _ _ _
-answered old (event.CopyInc parent) answer new given is = made new _ is ∙ opens old.copies (Inc parent) _ _ _
-answered old (event.Take copy page) answer new given is = took old copy page answer new given is
-answered old (event.Seal copy) answer new given is =
-    made new _ is
-    ∙ changes old.copies copy (sealed_in (state_of old.copies copy)) (completed (entry_at (entries old.copies) copy))
-    (completes (state_of old.copies copy) ∙ ap completed (sym (entry_is old.copies copy)))
-answered old (event.DropCopy copy) answer new given is =
-    made new _ is ∙ changes old.copies copy dropped was_dropped refl
-
-failed : (old : EngineState) (event : Event) (why : Refusal) (new : EngineState) → Fails old event why new
-    → entries new.copies ≡ entries old.copies
-failed old event OutOfMemory new fails = same_copies old new _ fails.1 refl
-failed old event.Force LogFault new fails = same_copies old new _ fails.reached.2 refl
-failed old (event.Commit txn) (CommitUnsure lsn) new fails = same_copies old new _ fails.1.reached.2 refl
-failed old (event.WriteBegin page) LogFault new fails = same_copies old new _ fails.reached.2 refl
-failed old (event.WriteEnd page) StoreFault new fails = elim (stored_or_not old page new fails) [
-  | inl same ↦ same_copies old new _ same refl
-  | inr stored ↦ same_copies old new _ stored.2 refl
-]
-failed old event.CkptEnd LogFault new fails = same_copies old new _ (closed_part old new fails).2.reached.2 refl
-failed old (event.Take copy page) StoreFault new fails = same_copies old new _ fails refl
-failed old (event.Repair copy page) LogFault new fails = same_copies old new _ fails.reached.2 refl
-failed old (event.Repair copy page) StoreFault new fails = elim fails [
-  | inl kept ↦ same_copies old new _ kept refl
-  | inr stored ↦ same_copies old new _ stored refl
-]
-failed old (event.Extend count) StoreFault new fails = same_copies old new _ fails refl
-failed old event StoreFault new fails = same_copies old new _ fails.1 refl
-failed old event why new fails = absurd fails
-
 pub copies_of_step : (old : EngineState) (event : Event) (reply : Result Answer Refusal) (new : EngineState)
     → Step old event reply new
     → entries new.copies ≡ with_copy_event (pages_of_point old.master) (entries old.copies) event reply
-copies_of_step old event (Ok answer) new step = answered old event answer new step.1 step.2
-copies_of_step old event (Err why) new (inl both) =
-    same_copies old new old both.1 refl ∙ sym (not_answered (pages_of_point old.master) (entries old.copies) event why)
-copies_of_step old event (Err why) new (inr both) =
-    failed old event why new both.1 ∙ sym (not_answered (pages_of_point old.master) (entries old.copies) event why)
+copies_of_step old event.CopyFull (Ok answer) new step = made new _ step.2 ∙ opens old.copies Full _ _ _
+copies_of_step old (event.CopyInc parent) (Ok answer) new step = made new _ step.2 ∙ opens old.copies (Inc parent) _ _ _
+copies_of_step old (event.Take copy page) (Ok answer) new step = took old copy page answer new step.1 step.2
+copies_of_step old (event.Seal copy) (Ok answer) new step =
+    made new _ step.2
+    ∙ changes old.copies copy (sealed_in (state_of old.copies copy)) (completed (entry_at (entries old.copies) copy))
+    (completes (state_of old.copies copy) ∙ ap completed (sym (entry_is old.copies copy)))
+copies_of_step old (event.DropCopy copy) (Ok answer) new step =
+    made new _ step.2 ∙ changes old.copies copy dropped was_dropped refl
+copies_of_step old event reply new step = ap entries ((step_leaves old event reply new step).copies tt)
 
 -- the id that a new copy gets
 pub next_id : (old : EngineState) (kind : CopyKind) (id : ℕ)

@@ -1,48 +1,47 @@
 -- Laws of checkpoints, of steps and of whole runs.
-use Rattle.std.proofs.Common.{◌≡◌, ℕ, ◌-◌, ◌/◌, ◌<◌, ◌≤◌, ◌↔◌, ◌++◌, Bool, true, false, not, List, [], ◌∷◌, get_or, length, refl, sym, ap}
-use Rattle.std.proofs.Common.{subst, subst₂, ◌∙◌, arith, inl, inr}
-use Rattle.std.specs.Prelude.{Option, Some, None, IfSome, IsSome, IsSomeAnd, Result, Ok, Err, is_none, is_some}
+use Rattle.std.proofs.Common.{◌≡◌, ℕ, ◌-◌, ◌/◌, ◌<◌, ◌≤◌, ◌↔◌, ◌++◌, Bool, true, false, not, List}
+use Rattle.std.proofs.Common.{[], ◌∷◌, get_or, length, refl, sym, ap, subst, subst₂, ◌∙◌, arith}
+use Rattle.std.proofs.Common.{inl, inr}
+use Rattle.std.specs.Prelude.{Option, Some, None, IfSome, IsSome, IsSomeAnd, Result, Ok, Err}
+use Rattle.std.specs.Prelude.{is_none, is_some}
 use Rattle.std.proofs.lemmas.List.{length_push}
 use Rattle.page_core.specs.declared.page.Page.{Page}
 use Rattle.log_records.specs.declared.record.Record.TheVariants as log
 use Rattle.log_records.specs.Coverage.{Covers}
-use Rattle.log_rules.specs.Checkpoint.{Checkpoint, IsCompleteCheckpoint, open_checkpoint, redo_point}
+use Rattle.log_rules.specs.Checkpoint.{Checkpoint, IsCompleteCheckpoint, open_checkpoint}
+use Rattle.log_rules.specs.Checkpoint.{redo_point, checkpoint_after}
 use Rattle.fuzzy_ckpt.specs.declared.point.Point.{Point}
-use Rattle.fuzzy_ckpt.proofs.Public.{open_push}
+use Rattle.fuzzy_ckpt.proofs.Public.{open_push, begun_is}
 use Rattle.engine_calls.specs.declared.event.Answer.{Answer}
 use Rattle.engine_calls.specs.declared.event.Answer.TheVariants as answer
 use Rattle.engine_calls.specs.declared.event.Event.{Event}
 use Rattle.engine_calls.specs.declared.event.Event.TheVariants as event
 use Rattle.engine_calls.specs.declared.refusal.Refusal.{Refusal}
-use Rattle.engine_calls.specs.declared.refusal.Refusal.TheVariants.{CkptOpen, GatherLeft, LogFault, LogFull, NoCkpt}
-use Rattle.engine_calls.specs.declared.refusal.Refusal.TheVariants.{OutOfMemory, StoreFault}
-use Rattle.engine_rules.specs.CkptReplies.{VolumeSize, gather_from, new_size, point_from, with_gather, with_point, with_size}
-use Rattle.engine_rules.specs.EngineState.{EngineState, IsFit, IsMasterOf, begin_ckpt_record, effect, end, end_ckpt_record}
-use Rattle.engine_rules.specs.EngineState.{extend_record, log_of, new_state}
-use Rattle.engine_rules.specs.Call.{record_for}
-use Rattle.engine_rules.proofs.Follows.{end_record_has, gather_record_has}
+use Rattle.engine_calls.specs.declared.refusal.Refusal.TheVariants.{CkptOpen, GatherLeft, LogFault}
+use Rattle.engine_calls.specs.declared.refusal.Refusal.TheVariants.{LogFull, NoCkpt, OutOfMemory}
+use Rattle.engine_calls.specs.declared.refusal.Refusal.TheVariants.{StoreFault}
+use Rattle.engine_rules.specs.CkptReplies.{VolumeSize, gather_from, new_size, point_from}
+use Rattle.engine_rules.specs.CkptReplies.{with_gather, with_point, with_size}
+use Rattle.engine_rules.specs.EngineState.{EngineState, IsFit, IsMasterOf, Outcome}
+use Rattle.engine_rules.specs.EngineState.{begin_ckpt_record, effect, end, end_ckpt_record}
+use Rattle.engine_rules.specs.EngineState.{extend_record, log_of, new_state, volume_pages}
 use Rattle.engine_rules.proofs.Growth.{count_then, growth_failed}
-use Rattle.engine_rules.proofs.NoCounts.{IsNoGrowth, call_gives_none}
-use Rattle.std.specs.Option.{option_map_or}
+use Rattle.engine_rules.proofs.Makes.{BeginsNoCkpt, IsBeside, IsNoGrowth, Makes, MakesBeginChkpt}
+use Rattle.engine_rules.proofs.Makes.{gives_none}
 use Rattle.log_records.specs.declared.record.Record.{Record}
 use Rattle.log_records.specs.Log.{Log, lsn_of, page_count, page_count_below, with_next}
 use Rattle.log_records.specs.PageCount.{given_count}
-use Rattle.log_records.specs.Record.{IsOfTransaction}
-use Rattle.log_records.proofs.Public.{page_count-same}
-use Rattle.log_records.proofs.Public.{count_behind-nil, page_count_at-append}
-use Rattle.log_rules.specs.Checkpoint.{checkpoint_after}
-use Rattle.fuzzy_ckpt.proofs.Public.{begun_is}
-use Rattle.engine_rules.specs.EngineState.{volume_pages}
+use Rattle.log_records.proofs.Public.{page_count-same, count_behind-nil, page_count_at-append}
 use Rattle.engine_rules.specs.Gather.{is_done}
 use Rattle.engine_rules.specs.Refusal.{has_no_room, or_else, refused_if, refusal}
 use Rattle.engine_rules.specs.Run.{Run}
 use Rattle.engine_rules.specs.Step.{Fails, Step}
-use Rattle.engine_rules.proofs.Beside.{IsBeside, keeps_ckpts, of_transaction, open_stays}
-use Rattle.engine_rules.proofs.Gathers.{PassesPages, PassesTxns, TakesPages, TakesTxn, WasDone, ckpt_end_is, closed_part}
-use Rattle.engine_rules.proofs.Gathers.{gather_case, gather_has, passes_pages, passes_txns, takes_pages, takes_txn}
-use Rattle.engine_rules.proofs.Gathers.{was_done}
-use Rattle.engine_rules.proofs.Refusals.{ckpt_end_passes, gather_passes}
-use Rattle.engine_rules.proofs.Steps.{stays_or_grows}
+use Rattle.engine_rules.proofs.Beside.{open_stays}
+use Rattle.engine_rules.proofs.Gathers.{PassesPages, PassesTxns, TakesPages, TakesTxn, WasDone}
+use Rattle.engine_rules.proofs.Gathers.{ckpt_end_is, closed_part, gather_case, passes_pages}
+use Rattle.engine_rules.proofs.Gathers.{passes_txns, takes_pages, takes_txn, was_done}
+use Rattle.engine_rules.proofs.Refusals.{ckpt_end_passes, end_not_by_device, gather_passes}
+use Rattle.engine_rules.proofs.Steps.{stays_or_grows, step_leaves}
 
 -- ---- the master of a fit engine
 
@@ -95,18 +94,6 @@ point_is_master old begin at redo new step =
       rw (same_begin, same_end, same_redo) (ap (λ (s : EngineState). s.master) state),
     )
 
--- a refusal of the end is none of the device
-end_not_by_device : (s : EngineState) → refusal s event.CkptEnd ≡ Some LogFault → ⊥
-end_not_by_device s is =
-    by_tests (is_none (open_checkpoint s.log)) (not (is_done s.left)) (has_no_room s 1) is
-  where
-    by_tests : (a b c : Bool)
-        → or_else (refused_if a NoCkpt) (or_else (refused_if b GatherLeft) (refused_if c LogFull)) ≡ Some LogFault → ⊥
-    by_tests true b c is = cc
-    by_tests false true c is = cc
-    by_tests false false true is = cc
-    by_tests false false false is = cc
-
 unforced_at : (old new : EngineState) → Fails old event.CkptEnd LogFault new
     → IsSomeAnd (open_checkpoint old.log) (λ c. (at : ℕ)
     × (new.log ≡ old.log ++ log.EndChkpt at c.begin (redo_point c) ∷ []) × (new.forced_end ≤ at))
@@ -135,19 +122,9 @@ unforced_leaves old new (inr both) = unforced_at old new both.1
 
 -- ---- which checkpoint ended last
 
-same_if_beside : (size : VolumeSize) (point : Option Point) (event : Event) (reply : Result Answer Refusal)
-    → IsBeside event → with_point size point event reply ≡ point
-same_if_beside size point event.CkptBegin reply beside = absurd beside
-same_if_beside size point event.CkptGather reply beside = absurd beside
-same_if_beside size point event.CkptEnd reply beside = absurd beside
-same_if_beside size point event reply beside = refl
-
 -- of the open checkpoint, if one is, this is the page count at its begin
 abbrev NotesBegun : EngineState → VolumeSize → Type 0
 NotesBegun s size = (c : Checkpoint) → open_checkpoint s.log ≡ Some c → size.begun ≡ page_count_below (log_of s) c.begin
-
-same_master : (old new state : EngineState) → new ≡ state → state.master ≡ old.master → new.master ≡ old.master
-same_master old new state is same = ap (λ (s : EngineState). s.master) is ∙ same
 
 ended_point : (old : EngineState) (size : VolumeSize) (reply : Answer) (new : EngineState) → NotesBegun old size
     → refusal old event.CkptEnd ≡ None
@@ -162,13 +139,6 @@ ended_point old size reply new notes none given is =
     (sym (notes c passes.still_open))
     ∙ ap (λ (a : Answer). with_point size old.master event.CkptEnd (Ok a)) (sym (given ∙ ap (λ o. o.answer) outcome))
 
-failed_point : (old : EngineState) (why : Refusal) (new : EngineState) → Fails old event.CkptEnd why new
-    → new.master ≡ old.master
-failed_point old OutOfMemory new fails = same_master old new old fails.1 refl
-failed_point old LogFault new fails = same_master old new _ (closed_part old new fails).2.reached.2 refl
-failed_point old StoreFault new fails = absurd fails.0
-failed_point old why new fails = absurd fails
-
 failed_begin : (old : EngineState) (why : Refusal) (new : EngineState) → Fails old event.CkptBegin why new → new ≡ old
 failed_begin old OutOfMemory new fails = fails.1
 failed_begin old StoreFault new fails = absurd fails.0
@@ -182,36 +152,9 @@ failed_gather old why new fails = absurd fails
 pub master_of_step : (old : EngineState) (size : VolumeSize) (event : Event) (reply : Result Answer Refusal)
     (new : EngineState) → NotesBegun old size
     → Step old event reply new → new.master ≡ with_point size old.master event reply
-master_of_step old size event.CkptBegin (Ok reply) new notes step = same_master old new _ step.2 refl
-master_of_step old size event.CkptGather (Ok reply) new notes step =
-    same_master old new _ step.2 (gather_has (λ s. s.master ≡ old.master) old refl (λ left. refl) (λ r left. refl))
-master_of_step old size event.CkptEnd (Ok reply) new notes step = ended_point old size reply new notes step.0 step.1 step.2
-master_of_step old size event.CkptBegin (Err why) new notes (inl both) = same_master old new old both.1 refl
-master_of_step old size event.CkptBegin (Err why) new notes (inr both) = same_master old new old
-    (failed_begin old why new both.1) refl
-master_of_step old size event.CkptGather (Err why) new notes (inl both) = same_master old new old both.1 refl
-master_of_step old size event.CkptGather (Err why) new notes (inr both) = same_master old new old
-    (failed_gather old why new both.1) refl
-master_of_step old size event.CkptEnd (Err why) new notes (inl both) = same_master old new old both.1 refl
-master_of_step old size event.CkptEnd (Err why) new notes (inr both) = failed_point old why new both.1
-master_of_step old size event reply new notes step =
-    (keeps_ckpts old event reply new tt step).master ∙ sym (same_if_beside size old.master event reply tt)
-
--- a master stays one, or another takes its place
-has_point : (size : VolumeSize) (point : Option Point) (event : Event) (reply : Result Answer Refusal) → IsSome point
-    → IsSome (with_point size point event reply)
-has_point size point event.CkptEnd (Ok (answer.Point begin last redo)) has = refl
-has_point size point event reply has = has
-
-pub master_stays : (old : EngineState) (event : Event) (reply : Result Answer Refusal) (new : EngineState)
-    → Step old event reply new → IsSome old.master → IsSome new.master
-master_stays old event reply new step has =
-    let count = option_map_or (λ c. page_count_below (log_of old) c.begin) (open_checkpoint old.log) 0 in
-    let size : VolumeSize = record { now = 0; begun = count } in
-    subst (λ (o : Option Point). IsSome o)
-    (sym (master_of_step old size event reply new
-    (λ c is. ap (λ o. option_map_or (λ x. page_count_below (log_of old) x.begin) o 0) is) step))
-    (has_point size old.master event reply has)
+master_of_step old size event.CkptEnd (Ok reply) new notes step =
+    ended_point old size reply new notes step.0 step.1 step.2
+master_of_step old size event reply new notes step = (step_leaves old event reply new step).master tt
 
 -- ---- the page count along a run
 
@@ -234,19 +177,6 @@ abbrev BeginsNone : Record → Type 0
 BeginsNone (log.BeginChkpt lsn) = ⊥
 BeginsNone other = Unit {0}
 
-not_begin : (r : Record) → IsOfTransaction r → BeginsNone r
-not_begin (log.BeginChkpt lsn) of = absurd of
-not_begin (log.Begin lsn txn) of = tt
-not_begin (log.Update lsn txn prev page slot change) of = tt
-not_begin (log.Comp lsn txn prev undo_next page slot change) of = tt
-not_begin (log.Commit lsn txn prev) of = tt
-not_begin (log.Abort lsn txn prev) of = tt
-not_begin (log.End lsn txn prev) of = tt
-not_begin (log.ChkptPages lsn begin pages) of = tt
-not_begin (log.ChkptTxns lsn begin txn state last undo_next) of = tt
-not_begin (log.EndChkpt lsn begin redo) of = tt
-not_begin (log.Extend lsn count) of = tt
-
 -- it leaves the begin of the open checkpoint, or closes it
 begin_stays : (Q : ℕ → Type 0) (o : Option Checkpoint) (r : Record) → BeginsNone r → IfSome o (λ c. Q c.begin)
     → IfSome (checkpoint_after o r) (λ c. Q c.begin)
@@ -256,13 +186,7 @@ begin_stays Q (Some c) (log.ChkptPages lsn begin pages) not has = has
 begin_stays Q None (log.ChkptTxns lsn begin txn state last undo_next) not has = tt
 begin_stays Q (Some c) (log.ChkptTxns lsn begin txn state last undo_next) not has = has
 begin_stays Q o (log.EndChkpt lsn begin redo) not has = tt
-begin_stays Q o (log.Begin lsn txn) not has = has
-begin_stays Q o (log.Update lsn txn prev page slot change) not has = has
-begin_stays Q o (log.Comp lsn txn prev undo_next page slot change) not has = has
-begin_stays Q o (log.Commit lsn txn prev) not has = has
-begin_stays Q o (log.Abort lsn txn prev) not has = has
-begin_stays Q o (log.End lsn txn prev) not has = has
-begin_stays Q o (log.Extend lsn count) not has = has
+begin_stays Q o other not has = has
 
 -- the page count at the begin of the open checkpoint, if one is
 abbrev IsBegunWith : EngineState → VolumeSize → Type 0
@@ -316,41 +240,24 @@ same_sized old new size sized is = record {
       (λ c. (c.begin < lsn_of (length l.records)) × (size.begun ≡ page_count_below l c.begin))) (sym is) sized.begun;
 }
 
--- of an event that begins no checkpoint, and does not grow the volume
-abbrev NoBegin : Event → Type 0
-NoBegin event.CkptBegin = ⊥
-NoBegin (event.Extend count) = ⊥
-NoBegin other = Unit {0}
-
-no_growth : (event : Event) → NoBegin event → IsNoGrowth event
+no_growth : (event : Event) → BeginsNoCkpt event → IsNoGrowth event
 no_growth (event.Extend count) not = not
 no_growth event not = tt
 
-record_begins_none : (s : EngineState) (event : Event) (r : Record) → NoBegin event → refusal s event ≡ None
-    → record_for s event ≡ Some r → BeginsNone r
-record_begins_none s event.CkptBegin r not none made = absurd not
-record_begins_none s (event.Extend count) r not none made = absurd not
-record_begins_none s event.CkptGather r not none made =
-    gather_record_has BeginsNone s r none made (λ c pages is finds. tt) (λ c t is finds. tt)
-record_begins_none s event.CkptEnd r not none made = end_record_has BeginsNone s r none made (λ c is done. tt)
-record_begins_none s event r not none made = not_begin r (of_transaction s event r tt tt made)
-
-size_stays : (size : VolumeSize) (event : Event) (reply : Result Answer Refusal) → NoBegin event
-    → with_size size event reply ≡ size
-size_stays size event.CkptBegin reply not = absurd not
-size_stays size (event.Extend count) reply not = absurd not
-size_stays size event reply not = refl
+record_begins_none : (s : EngineState) (event : Event) (r : Record) → BeginsNoCkpt event → Makes s event r
+    → BeginsNone r
+record_begins_none s event r not (MakesBeginChkpt ckpt begins passes) = absurd (begins not)
+record_begins_none s event r not other = tt
 
 sized_beside : (old : EngineState) (size : VolumeSize) (event : Event) (reply : Result Answer Refusal)
-    (new : EngineState) → NoBegin event → IsSized old size → Step old event reply new
-    → IsSized new (with_size size event reply)
-sized_beside old size event reply new not sized step =
-    subst (IsSized new) (sym (size_stays size event reply not)) (elim (stays_or_grows old event reply new step) [
-      | inl stays ↦ same_sized old new size sized (λ i. record { pages = stays.pages i; records = stays.log i })
-      | inr grows ↦
-          sized_push old new size grows.r sized (record_begins_none old event grows.r not grows.accepted grows.made)
-          (call_gives_none old event grows.r (no_growth event not) grows.made) (λ i. record { pages = grows.pages i; records = grows.log i })
-    ])
+    (new : EngineState) → BeginsNoCkpt event → IsSized old size → Step old event reply new → IsSized new size
+sized_beside old size event reply new not sized step = elim (stays_or_grows old event reply new step) [
+  | inl stays ↦ same_sized old new size sized (λ i. record { pages = stays.pages i; records = stays.log i })
+  | inr grows ↦
+      sized_push old new size grows.r sized (record_begins_none old event grows.r not grows.makes)
+      (gives_none old event grows.r (no_growth event not) grows.makes)
+      (λ i. record { pages = grows.pages i; records = grows.log i })
+]
 
 sized_begun : (old : EngineState) (size : VolumeSize) → IsSized old size
     → IsSized (effect old event.CkptBegin).state (record size { begun = size.now })
@@ -428,18 +335,6 @@ end_says s = end_refused (open_checkpoint s.log) (not (is_done s.left)) (has_no_
 abbrev Tells : EngineState → Bool → Type 0
 Tells s done = IsSome (open_checkpoint s.log) → is_done s.left ≡ done
 
-untold : (done : Bool) (event : Event) (reply : Result Answer Refusal) → IsBeside event
-    → with_gather done event reply ≡ done
-untold done event.CkptBegin reply beside = absurd beside
-untold done event.CkptGather reply beside = absurd beside
-untold done event.CkptEnd reply beside = absurd beside
-untold done event reply beside = refl
-
-not_told : (done : Bool) (event : Event) (why : Refusal) → with_gather done event (Err why) ≡ done
-not_told done event.CkptBegin why = refl
-not_told done event.CkptGather why = refl
-not_told done event why = refl
-
 same_tells : (old new : EngineState) (done : Bool) → Tells old done → new ≡ old → Tells new done
 same_tells old new done tells is = subst (λ (s : EngineState). Tells s done) (sym is) tells
 
@@ -449,9 +344,6 @@ none_tells s done none is = let some = subst IsSome none is in cc
 some_of : (o : Option Checkpoint) (c : Checkpoint) → o ≡ Some c → IsSome o
 some_of o c is = subst IsSome (sym is) refl
 
-abbrev Told : Bool → EngineState → Answer → Type 0
-Told done s a = Tells s (with_gather done event.CkptGather (Ok a))
-
 gather_tells : (old : EngineState) (done : Bool) (reply : Answer) (new : EngineState) → Tells old done
     → refusal old event.CkptGather ≡ None → reply ≡ (effect old event.CkptGather).answer
     → new ≡ (effect old event.CkptGather).state → Tells new (with_gather done event.CkptGather (Ok reply))
@@ -460,39 +352,31 @@ gather_tells old done reply new tells none given is =
     let c = passes.ckpt in
     let open_now = passes.still_open in
     let before = tells (some_of (open_checkpoint old.log) c open_now) in
+    let told : (o : Outcome) → effect old event.CkptGather ≡ o
+    → Tells o.state (with_gather done event.CkptGather (Ok o.answer))
+    → Tells new (with_gather done event.CkptGather (Ok reply)) =
+    λ o outcome. subst₂ (λ s a. Tells s (with_gather done event.CkptGather (Ok a)))
+    (sym (is ∙ ap (λ x. x.state) outcome)) (sym (given ∙ ap (λ x. x.answer) outcome)) in
     elim (gather_case old c) [
       | TakesPages pages finds ↦
-          let does = takes_pages old c pages open_now finds in
-          subst₂ (Told done) (sym (is ∙ ap (λ o. o.state) does.outcome)) (sym (given ∙ ap (λ o. o.answer) does.outcome))
-          (λ some. sym (ap is_done finds.left) ∙ before)
+          told _ (takes_pages old c pages open_now finds).outcome (λ some. sym (ap is_done finds.left) ∙ before)
       | PassesPages finds ↦
-          let does = passes_pages old c open_now finds in
-          subst₂ (Told done) (sym (is ∙ ap (λ o. o.state) does.outcome)) (sym (given ∙ ap (λ o. o.answer) does.outcome))
-          (λ some. sym (ap is_done finds.left) ∙ before)
+          told _ (passes_pages old c open_now finds).outcome (λ some. sym (ap is_done finds.left) ∙ before)
       | TakesTxn t finds ↦
-          let does = takes_txn old c t open_now finds in
-          subst₂ (Told done) (sym (is ∙ ap (λ o. o.state) does.outcome)) (sym (given ∙ ap (λ o. o.answer) does.outcome))
-          (λ some. sym (ap is_done finds.left) ∙ before)
-      | PassesTxns finds ↦
-          let does = passes_txns old c open_now finds in
-          subst₂ (Told done) (sym (is ∙ ap (λ o. o.state) does.outcome)) (sym (given ∙ ap (λ o. o.answer) does.outcome))
-          (λ some. refl)
-      | WasDone left ↦
-          let does = was_done old c open_now left in
-          subst₂ (Told done) (sym (is ∙ ap (λ o. o.state) does.outcome)) (sym (given ∙ ap (λ o. o.answer) does.outcome))
-          (λ some. refl)
+          told _ (takes_txn old c t open_now finds).outcome (λ some. sym (ap is_done finds.left) ∙ before)
+      | PassesTxns finds ↦ told _ (passes_txns old c open_now finds).outcome (λ some. refl)
+      | WasDone left ↦ told _ (was_done old c open_now left).outcome (λ some. refl)
     ]
 
 beside_tells : (old : EngineState) (event : Event) (reply : Result Answer Refusal) (new : EngineState) (done : Bool)
-    → IsBeside event → Tells old done → Step old event reply new → Tells new (with_gather done event reply)
+    → IsBeside event → Tells old done → Step old event reply new → Tells new done
 beside_tells old event reply new done beside tells step =
-    let keeps = keeps_ckpts old event reply new beside step in
     let same : open_checkpoint new.log ≡ open_checkpoint old.log = elim (stays_or_grows old event reply new step) [
       | inl stays ↦ ap open_checkpoint stays.log
       | inr grows ↦
-          ap open_checkpoint grows.log ∙ open_stays old event grows.r beside grows.made
+          ap open_checkpoint grows.log ∙ open_stays old event grows.r beside grows.makes
     ] in
-    λ some. ap is_done keeps.left ∙ tells (subst IsSome same some) ∙ sym (untold done event reply beside)
+    λ some. ap is_done ((step_leaves old event reply new step).left beside) ∙ tells (subst IsSome same some)
 
 told_step : (old : EngineState) (event : Event) (reply : Result Answer Refusal) (new : EngineState) (done : Bool)
     → Tells old done → Step old event reply new → Tells new (with_gather done event reply)
@@ -510,10 +394,9 @@ told_step old event.CkptBegin (Err why) new done tells (inr both) = same_tells o
 told_step old event.CkptGather (Err why) new done tells (inl both) = same_tells old new done tells both.1
 told_step old event.CkptGather (Err why) new done tells (inr both) = same_tells old new done tells
     (failed_gather old why new both.1)
+told_step old event.CkptEnd (Err LogFault) new done tells step = none_tells new done (unforced_leaves old new step).1
 told_step old event.CkptEnd (Err why) new done tells (inl both) = same_tells old new done tells both.1
 told_step old event.CkptEnd (Err OutOfMemory) new done tells (inr both) = same_tells old new done tells both.1.1
-told_step old event.CkptEnd (Err LogFault) new done tells (inr both) = none_tells new done
-    (unforced_at old new both.1).1
 told_step old event.CkptEnd (Err StoreFault) new done tells (inr both) = absurd both.1.0
 told_step old event.CkptEnd (Err why) new done tells (inr both) = absurd both.1
 told_step old event reply new done tells step = beside_tells old event reply new done tt tells step

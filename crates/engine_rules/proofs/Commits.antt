@@ -1,5 +1,6 @@
 -- The Commits that were answered, in the log after a run and in what a crash leaves of it.
-use Rattle.std.proofs.Common.{◌≡◌, ℕ, ◌<◌, ◌++◌, List, [], ◌∷◌, length, get_or, refl, sym, subst, ◌∙◌, arith}
+use Rattle.std.proofs.Common.{◌≡◌, ℕ, ◌<◌, ◌++◌, List, [], ◌∷◌, length, get_or, refl, sym, subst}
+use Rattle.std.proofs.Common.{◌∙◌, arith}
 use Rattle.std.specs.Prelude.{Result, Ok}
 use Rattle.std.specs.List.{All}
 use Rattle.std.specs.Option.{option_to_list}
@@ -16,12 +17,15 @@ use Rattle.engine_calls.specs.declared.event.Answer.TheVariants as answer
 use Rattle.engine_calls.specs.declared.event.Event.{Event}
 use Rattle.engine_calls.specs.declared.event.Event.TheVariants as event
 use Rattle.engine_calls.specs.declared.refusal.Refusal.{Refusal}
-use Rattle.engine_rules.specs.AnsweredCommits.{AnsweredCommit, StandsIn, answered_commit, answered_commits}
+use Rattle.engine_rules.specs.AnsweredCommits.{AnsweredCommit, StandsIn, answered_commit}
+use Rattle.engine_rules.specs.AnsweredCommits.{answered_commits}
 use Rattle.engine_rules.specs.EngineState.{EngineState, IsFit, end, log_of, new_state}
 use Rattle.engine_rules.specs.Run.{Run}
 use Rattle.engine_rules.specs.Step.{Step}
-use Rattle.engine_rules.proofs.Forces.{EndsAtRecord, forces}
-use Rattle.engine_rules.proofs.Runs.{commit_is_forced, forced_end_from, forced_end_of_run, log_of_run}
+use Rattle.engine_rules.proofs.Forces.{EndsAtRecord}
+use Rattle.engine_rules.proofs.Steps.{forces}
+use Rattle.engine_rules.proofs.Runs.{commit_is_forced, forced_end_from, forced_end_of_run}
+use Rattle.engine_rules.proofs.Runs.{log_of_run}
 
 -- the Commit stands in the log, and is forced
 abbrev pub IsForcedIn : EngineState → AnsweredCommit → Type 0
@@ -60,7 +64,7 @@ all_forced : (old : EngineState) (events : List Event) (replies : List (Result A
 all_forced old [] [] new ends is = All-nil (IsForcedIn new)
 all_forced old (event ∷ events) (reply ∷ replies) new ends run =
     let mid = run.0 in
-    let ends_now = (forces old event reply mid ends run.1).at_record in
+    let ends_now = (forces old event reply mid ends run.1).0 in
     let grown = log_of_run mid events replies new run.2 in
     let no_less = forced_end_from mid events replies new ends_now run.2 in
     let first = answered_now old event reply mid run.1 in

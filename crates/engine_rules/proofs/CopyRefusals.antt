@@ -1,6 +1,8 @@
 -- The refusals of calls on copies, by the master and the entries of the copies alone.
-use Rattle.std.proofs.Common.{◌≡◌, ℕ, ◌+◌, Bool, not, List, [], ◌∷◌, length, get_or, refl, sym, ap, ◌∙◌, inl, inr}
-use Rattle.std.specs.Prelude.{Option, Some, None, map, is_none, is_some, nat_le, nat_lt, if◌then◌else◌}
+use Rattle.std.proofs.Common.{◌≡◌, ℕ, ◌+◌, Bool, not, List, [], ◌∷◌, length, get_or, refl, sym, ap}
+use Rattle.std.proofs.Common.{◌∙◌, inl, inr}
+use Rattle.std.specs.Prelude.{Option, Some, None, map, is_none, is_some, nat_le, nat_lt}
+use Rattle.std.specs.Prelude.{if◌then◌else◌}
 use Rattle.std.specs.List.{position, position_or_len}
 use Rattle.std.specs.Option.{option_map, option_or}
 use Rattle.std.proofs.Math.ListN.{get_or-map}
@@ -9,24 +11,24 @@ use Rattle.std.proofs.lemmas.List.{length-map}
 use Rattle.image_copies.specs.declared.copy_id.TheConstants.{MAX_COPIES}
 use Rattle.copy_vault.specs.declared.fault.CopyFault.{CopyFault}
 use Rattle.copy_vault.specs.declared.fault.CopyFault.TheVariants as fault
-use Rattle.image_copies.specs.Copy.{PageDecision, is_undecided, kept, least_undecided, taken, undecided}
-use Rattle.copy_vault.specs.Vault.{CopyState, complete, complete_refusal, drop_refusal, dropped, open_refusal, reading}
-use Rattle.copy_vault.specs.Vault.{seal_refusal, state_of}
+use Rattle.image_copies.specs.Copy.{PageDecision, is_undecided, kept, least_undecided, taken}
+use Rattle.image_copies.specs.Copy.{undecided}
+use Rattle.copy_vault.specs.Vault.{CopyState, complete, complete_refusal, drop_refusal, dropped}
+use Rattle.copy_vault.specs.Vault.{open_refusal, reading, seal_refusal, state_of}
 use Rattle.fuzzy_ckpt.specs.declared.point.Point.{Point}
 use Rattle.engine_calls.specs.declared.event.Event.{Event}
 use Rattle.engine_calls.specs.declared.event.Event.TheVariants as event
 use Rattle.engine_calls.specs.declared.refusal.Refusal.{Refusal}
-use Rattle.engine_calls.specs.declared.refusal.Refusal.TheVariants.{NoMaster, PageDecided, PageOut, PagesLeft, WriteBegun}
+use Rattle.engine_calls.specs.declared.refusal.Refusal.TheVariants.{NoMaster, PageDecided, PageOut}
+use Rattle.engine_calls.specs.declared.refusal.Refusal.TheVariants.{PagesLeft, WriteBegun}
 use Rattle.engine_calls.specs.declared.refusal.Refusal.TheVariants.{TooManyCopies}
-use Rattle.engine_rules.specs.Catalogue.{CatalogueEntry, catalogue_refusal, count_refusal, entry_at, entry_of, has_mark, has_no_mark}
-use Rattle.engine_rules.specs.Catalogue.{mark_of}
-use Rattle.engine_rules.specs.Catalogue.{marks_of, not_decided, parent_refusal, reading_refusal}
-use Rattle.engine_rules.specs.EngineState.{EngineState, image_of}
-use Rattle.engine_rules.specs.EngineState.{volume_pages}
-use Rattle.engine_rules.specs.Refusal.{has_decided, or_else, refusal, refused_if}
+use Rattle.engine_rules.specs.Catalogue.{CatalogueEntry, catalogue_refusal, count_refusal, entry_at}
+use Rattle.engine_rules.specs.Catalogue.{entry_of, has_mark, has_no_mark, mark_of, marks_of}
+use Rattle.engine_rules.specs.Catalogue.{not_decided, parent_refusal, reading_refusal}
+use Rattle.engine_rules.specs.EngineState.{EngineState, image_of, volume_pages}
+use Rattle.engine_rules.specs.Refusal.{has_decided, or_else, refusal, refused_if, pages_in}
 use Rattle.engine_calls.specs.Refusal.{of_vault}
 use Rattle.engine_rules.proofs.Catalogues.{entries, entry_is}
-use Rattle.engine_rules.specs.Refusal.{pages_in}
 
 -- ---- how many copies
 

@@ -1,144 +1,79 @@
 -- Each engine is fit: a new one, and one after a step.
-use Rattle.std.proofs.Common.{◌≡◌, ℕ, zero, suc, get_or, replicate, ◌+◌, ◌<◌, ◌≤◌, ◌++◌, List, [], ◌∷◌, length, take}
-use Rattle.std.proofs.Common.{lit≤, refl, sym, ap, ◌⊎◌, ◌∙◌, subst, arith, inl, inr, true≢false}
-use Rattle.std.specs.Prelude.{IfSome, Option, Result, Some, None}
+use Rattle.std.proofs.Common.{◌≡◌, ℕ, zero, suc, get_or, replicate, ◌+◌, ◌<◌, ◌≤◌, ◌++◌, List, []}
+use Rattle.std.proofs.Common.{◌∷◌, length, take, lit≤, refl, sym, ap, ◌∙◌, subst, arith, true≢false}
+use Rattle.std.specs.Prelude.{IfSome, IsSome, Option, Result, Some, None}
 use Rattle.std.proofs.lemmas.List.FromFn.{get_or-map-range_with_len, length-map-range_with_len}
 use Rattle.page_core.specs.declared.page.Page.{Page}
 use Rattle.page_core.specs.Page.{formatted}
 use Rattle.page_core.specs.Volume.{formatted_pages}
-use Rattle.log_records.proofs.Public.{stored_later}
+use Rattle.log_records.proofs.Public.{stored_later, change_within, count_behind-nil, more-none}
+use Rattle.log_records.proofs.Public.{page_count-same, transaction_gives_none}
 use Rattle.log_records.specs.Image.{image}
 use Rattle.buffer_pool.proofs.Public.{images_later, resident_later}
 use Rattle.buffer_pool.specs.Frames.{IsResident}
-use Rattle.buffer_pool.specs.Pool.{is_clean}
 use Rattle.std.specs.List.{All}
-use Rattle.std.proofs.lemmas.List.{append-nil, length-replicate, length_push, take_all}
-use Rattle.std.proofs.lemmas.List.Elements.{All-head, All-nil, All-tail}
+use Rattle.std.proofs.lemmas.List.{length-replicate, length_push, take_all}
+use Rattle.std.proofs.lemmas.List.Elements.{All-head, All-nil, All-tail, All-weaker}
 use Rattle.log_records.specs.declared.limits.TheConstants.{MAX_RECORDS}
 use Rattle.log_records.specs.declared.record.Record.{Record}
-use Rattle.log_records.specs.Log.{IsPageCount, StandsAt}
-use Rattle.log_records.specs.Record.{IsOfTransaction, change_of, own_lsn}
+use Rattle.log_records.specs.Log.{IsPageCount, StandsAt, with_next}
+use Rattle.log_records.specs.PageCount.{given_count}
+use Rattle.log_records.specs.declared.page_change.PageChange.{PageChange}
+use Rattle.log_records.specs.Record.{IsOfTransaction, change_of}
 use Rattle.log_rules.specs.Linked.{MayFollow}
 use Rattle.log_rules.specs.Transactions.{owed}
-use Rattle.log_rules.proofs.Public.{linked_none, linked_push}
-use Rattle.log_rules.proofs.Public.{valid_next}
+use Rattle.log_rules.proofs.Public.{linked_none, linked_push, valid_next}
 use Rattle.image_copies.specs.Copy.{CopyView}
 use Rattle.copy_vault.specs.Vault.{complete, dropped, reading, state_of}
 use Rattle.copy_coverage.specs.Copied.{AreCopied, copy_in}
-use Rattle.copy_coverage.proofs.Public.{copied_later}
+use Rattle.copy_coverage.proofs.Public.{copied_forced, copied_later}
 use Rattle.engine_calls.specs.declared.event.Answer.{Answer}
 use Rattle.engine_calls.specs.declared.event.Event.{Event}
-use Rattle.engine_calls.specs.declared.event.Event.TheVariants as event
 use Rattle.engine_calls.specs.declared.refusal.Refusal.{Refusal}
 use Rattle.engine_rules.specs.Call.{Calls}
-use Rattle.engine_rules.specs.EngineState.{EngineState, HaveMaster, IsFit, appended, end, log_of, new_state, with_page}
-use Rattle.engine_rules.specs.EngineState.{volume_pages}
+use Rattle.engine_rules.specs.EngineState.{AreCounted, AreStable, EngineState, HaveMaster, IsFit}
+use Rattle.engine_rules.specs.EngineState.{appended, ckpt_end_effect, closed, end, end_ckpt_record}
+use Rattle.engine_rules.specs.EngineState.{forced_to, gathering, image_of, log_of, new_state}
+use Rattle.engine_rules.specs.EngineState.{point_of, with_copies, with_page, volume_pages}
+use Rattle.engine_rules.specs.Gather.{Left, pages_left}
 use Rattle.engine_calls.specs.EventFits.{EventFits}
 use Rattle.engine_rules.specs.Run.{Run}
 use Rattle.engine_rules.specs.Step.{Step}
-use Rattle.engine_rules.proofs.Beside.{gathered_later}
-use Rattle.engine_rules.proofs.CkptFits.{FitsCkpts, ckpts_fit, master_now}
-use Rattle.engine_rules.proofs.CopySteps.{copies_fit, noted_fit}
-use Rattle.engine_rules.proofs.Follows.{follows}
-use Rattle.engine_rules.proofs.Forces.{EndsAtRecord, Forces, forces}
-use Rattle.engine_rules.proofs.Growth.{fit_of_growth, lsn_of_formatted}
+use Rattle.engine_rules.proofs.Beside.{HasMaster, gathered_later, master_forced}
+use Rattle.engine_rules.proofs.CkptFits.{forced_within, made_gathered, master_now, point_is_master}
+use Rattle.engine_rules.proofs.Follows.{made_follows}
+use Rattle.engine_rules.proofs.Forces.{Forces, all_forces}
+use Rattle.engine_rules.proofs.Growth.{extended_fit, lsn_of_formatted}
 use Rattle.engine_rules.proofs.Rooms.{room_grows, room_push}
 use Rattle.engine_rules.proofs.Stands.{stands}
-use Rattle.engine_rules.proofs.Steps.{Grows, Stays, grows_count, start, stays_count, stays_or_grows}
-use Rattle.engine_rules.proofs.PageComes.{dirty_after, dirty_before, start_dirty, start_fit, start_held, start_images}
-use Rattle.engine_rules.proofs.Writes.{GoesOn, PageStep, PagesFit, page_step, pages_fit}
-use Rattle.log_records.proofs.Public.{count_behind-nil, more-none}
-use Rattle.engine_rules.proofs.NoCounts.{IsNoGrowth, call_gives_none}
-use Rattle.log_records.proofs.Public.{page_count-same, transaction_gives_none}
+use Rattle.engine_rules.proofs.Gathers.{AreGathered}
+use Rattle.engine_rules.proofs.Moves.{Adds, Begun, Completes, Copied, Done, Extends, Fetched}
+use Rattle.engine_rules.proofs.Moves.{Forced, Gathered, Here, Keeps, Moves, holding, Rest, Start}
+use Rattle.engine_rules.proofs.Moves.{Stored, Then, moves}
+use Rattle.engine_rules.proofs.Refusals.{CkptEnds}
+use Rattle.engine_rules.proofs.PageComes.{dirty_after, fetched_fit, needed_within, page_comes}
+use Rattle.engine_rules.proofs.Writes.{begun_fit, stored_fit}
+use Rattle.engine_rules.proofs.Makes.{IsBeside, IsNoGrowth, Makes, MakesEndChkpt, gives_none}
+use Rattle.engine_rules.proofs.Makes.{left_with, makes}
 
--- ---- after a step
+-- ---- a record is appended
 
--- how the log goes on
-goes_on : (old : EngineState) (event : Event) (reply : Result Answer Refusal) (new : EngineState) → IsNoGrowth event
-    → Forces old new
-    → Stays old event reply new ⊎ Grows old event reply new → GoesOn old new
-goes_on old event reply new same forces (inl stays) = record {
-  pages = stays.pages;
-  count = stays_count old event reply new stays;
-  rest = [];
-  log = stays.log ∙ sym (append-nil old.log);
-  no_less = forces.no_less;
-}
-goes_on old event reply new same forces (inr grows) = record {
-  pages = grows.pages;
-  count = grows_count old event reply new same grows;
-  rest = grows.r ∷ [];
-  log = grows.log;
-  no_less = forces.no_less;
-}
+-- what a record is that may be appended, with so much left of the gather
+record MayCome (s : EngineState) (r : Record) (left : Left) : Type 0 where
+  may_follow : MayFollow s.log r
+  room : length (s.log ++ r ∷ []) + owed (s.log ++ r ∷ []) ≤ MAX_RECORDS
+  stands_at : StandsAt (volume_pages s) (end s) r
+  no_count : given_count r ≡ None
+  gathered : AreGathered (with_next (log_of s) (r ∷ [])) s.stored left
 
-fit_stays : (old : EngineState) (event : Event) (reply : Result Answer Refusal) (new : EngineState) → IsFit old
-    → IsFit (start old event reply) → PageStep old new → EndsAtRecord new → PagesFit new → FitsCkpts new
-    → AreCopied (log_of new) new.forced_end new.stored new.copies → HaveMaster new.master new.copies
-    → Stays old event reply new → IsFit new
-fit_stays old event reply new fit from step forced pages ckpts copied noted stays = record {
-  valid = rw (stays.pages, stays.log) fit.valid;
-  linked = rw stays.log fit.linked;
-  room = rw stays.log fit.room;
-  forced = forced;
-  counted = pages.counted;
-  resident = rw (stays.log, stays.resident) (start_images old event reply from);
-  held = λ q lt dirty.
-      let within : q < volume_pages old = omega (arith, lt, stays_count old event reply new stays) in
-      rw stays.resident (start_held old event reply from q within
-      (ap (λ (rs : List Record). is_clean rs old.written q) (sym stays.log)
-      ∙ dirty_before old new q fit step within dirty));
-  stored = pages.stored;
-  stable = pages.stable;
-  gathered = ckpts.gathered;
-  master = ckpts.master;
-  copied = copied;
-  noted = noted;
-}
-
-forced_low : (s : EngineState) (r : Record) → IsFit s → own_lsn r ≡ end s → s.forced_end ≤ own_lsn r
-forced_low s r fit own =
-    let le = fit.forced.1 in
-    let at = fit.forced.2 in
-    omega arith
-
--- what the record of a call is, at the end of the log
-pub record Comes (s : EngineState) (r : Record) : Type 0 where
-  pub of_transaction : IsOfTransaction r
-  pub may_follow : MayFollow s.log r
-  pub room : length (s.log ++ r ∷ []) + owed (s.log ++ r ∷ []) ≤ MAX_RECORDS
-  pub stands_at : StandsAt (volume_pages s) (end s) r
-
-pub comes : (s : EngineState) (r : Record) → IsFit s → Calls s r → Comes s r
-comes s r fit calls = record {
-  of_transaction = calls.of_transaction;
-  may_follow = follows s calls.call r fit calls.accepted calls.made;
-  room = room_grows s calls.call r fit calls.accepted calls.made;
-  stands_at = stands s calls.call r fit calls.fits calls.accepted calls.made;
-}
-
-pub comes_few : (s : EngineState) (r : Record) → Comes s r → length s.log < MAX_RECORDS
-comes_few s r come = let room = come.room in omega (arith, length_push s.log r)
-
--- with a page more in memory
-pub comes_with : (s : EngineState) (p : ℕ) (r : Record) → Comes s r → Comes (with_page s p) r
-comes_with s p r come = record {
-  of_transaction = come.of_transaction;
-  may_follow = come.may_follow;
-  room = come.room;
-  stands_at = come.stands_at;
-}
-
--- the state with the record of an accepted call at the end of its log
-pub fit_appended : (s : EngineState) (r : Record) → IsFit s → Comes s r
-    → IfSome (change_of r) (λ c. IsResident s.resident c.page) → IsFit (appended s r)
-fit_appended s r fit come there =
+fit_with : (s : EngineState) (r : Record) (left : Left) → IsFit s → MayCome s r left
+    → IfSome (change_of r) (λ c. IsResident s.resident c.page) → IsFit (gathering (appended s r) left)
+fit_with s r left fit come there =
     let at = come.stands_at in
-    let count : volume_pages (appended s r) ≡ volume_pages s =
-    page_count-same (log_of s) r (transaction_gives_none r come.of_transaction) in
+    let few : length s.log < MAX_RECORDS = let room = come.room in omega (arith, length_push s.log r) in
+    let count : volume_pages (appended s r) ≡ volume_pages s = page_count-same (log_of s) r come.no_count in
     record {
-      valid = valid_next (log_of s) r fit.valid (comes_few s r come) at
-          (more-none _ r (transaction_gives_none r come.of_transaction));
+      valid = valid_next (log_of s) r fit.valid few at (more-none _ r come.no_count);
       linked = linked_push s.log r fit.linked come.may_follow;
       room = room_push s.log r fit.room come.room;
       forced = (fit.forced.0, omega (arith, fit.forced.1, length_push s.log r), fit.forced.2);
@@ -152,69 +87,158 @@ fit_appended s r fit come there =
           resident_later s.resident r q ∙ dirty_after s r q fit (omega (arith, lt, count)) at.lsn there dirty;
       stored = stored_later s.log (r ∷ []) s.stored s.written s.writing fit.stored;
       stable = record { pages = fit.stable.pages; images = fit.stable.images };
-      gathered = gathered_later
-          (log_of s) r s.stored s.left fit.valid fit.linked come.of_transaction come.may_follow at.lsn fit.gathered;
+      gathered = come.gathered;
       master = master_now s r fit at.lsn;
-      copied = copied_later (log_of s) r s.forced_end s.stored s.copies at.lsn (forced_low s r fit at.lsn) fit.copied;
+      copied = copied_later (log_of s) r s.forced_end s.stored s.copies at.lsn
+          (omega (arith, forced_within s fit, at.lsn)) fit.copied;
       noted = fit.noted;
     }
 
-fit_grows : (old : EngineState) (event : Event) (reply : Result Answer Refusal) (new : EngineState) → IsFit old
-    → IsNoGrowth event → IsFit (start old event reply) → PageStep old new
-    → EventFits event → EndsAtRecord new → PagesFit new → FitsCkpts new
-    → AreCopied (log_of new) new.forced_end new.stored new.copies → HaveMaster new.master new.copies
-    → Grows old event reply new → IsFit new
-fit_grows old event reply new fit same from step numbers forced pages ckpts copied noted grows =
-    let r = grows.r in
-    let may = follows old event r fit grows.accepted grows.made in
-    let whole = room_grows old event r fit grows.accepted grows.made in
-    let few : length old.log < MAX_RECORDS = omega (arith, length_push old.log r) in
-    let at = stands old event r fit numbers grows.accepted grows.made in
+made_comes : (s : EngineState) (event : Event) (r : Record) → IsFit s → EventFits event → IsNoGrowth event
+    → Makes s event r → MayCome s r (left_with s.left r)
+made_comes s event r fit fits stays makes = record {
+  may_follow = made_follows s event r fit makes;
+  room = room_grows s event r fit makes;
+  stands_at = stands s event r fit fits makes;
+  no_count = gives_none s event r stays makes;
+  gathered = made_gathered s event r fit fits stays makes;
+}
+
+-- what the record of a call is, at the end of the log
+pub record Comes (s : EngineState) (r : Record) : Type 0 where
+  pub of_transaction : IsOfTransaction r
+  pub may_follow : MayFollow s.log r
+  pub room : length (s.log ++ r ∷ []) + owed (s.log ++ r ∷ []) ≤ MAX_RECORDS
+  pub stands_at : StandsAt (volume_pages s) (end s) r
+
+pub comes : (s : EngineState) (r : Record) → IsFit s → Calls s r → Comes s r
+comes s r fit calls =
+    let makes = makes s calls.call r calls.accepted calls.made in
     record {
-      valid = rw (grows.pages, grows.log) (valid_next (log_of old) r fit.valid few at
-          (more-none _ r (call_gives_none old event r same grows.made)));
-      linked = rw grows.log (linked_push old.log r fit.linked may);
-      room = rw grows.log (room_push old.log r fit.room whole);
-      forced = forced;
-      counted = pages.counted;
-      resident = rw (grows.log, grows.resident)
-          (images_later old.log r (start old event reply).resident (start_images old event reply from));
-      held = λ q lt dirty.
-          let within : q < volume_pages old = omega (arith, lt, grows_count old event reply new same grows) in
-          rw grows.resident (resident_later (start old event reply).resident r q
-          ∙ start_dirty old event reply from r q fit within at grows.needs
-          (ap (λ (rs : List Record). is_clean rs old.written q) (sym grows.log)
-          ∙ dirty_before old new q fit step within dirty));
-      stored = pages.stored;
-      stable = pages.stable;
-      gathered = ckpts.gathered;
-      master = ckpts.master;
-      copied = copied;
-      noted = noted;
+      of_transaction = calls.of_transaction;
+      may_follow = made_follows s calls.call r fit makes;
+      room = room_grows s calls.call r fit makes;
+      stands_at = stands s calls.call r fit calls.fits makes;
     }
 
-fit_of_call : (old : EngineState) (event : Event) (reply : Result Answer Refusal) (new : EngineState) → IsFit old
-    → EventFits event → IsNoGrowth event → Step old event reply new → IsFit new
-fit_of_call old event reply new fit numbers same step =
-    let forces = forces old event reply new fit.forced step in
-    let kind = stays_or_grows old event reply new step in
-    let goes = goes_on old event reply new same forces kind in
-    let stored = page_step old event reply new same step in
-    let pages = pages_fit old new fit goes stored in
-    let ckpts = ckpts_fit old event reply new fit numbers same forces stored kind step in
-    let copied = copies_fit old event reply new fit numbers forces stored kind step in
-    let noted = noted_fit old event reply new fit step in
-    let from = start_fit old event reply new fit step in
-    elim kind [
-      | inl stays ↦ fit_stays old event reply new fit from stored forces.at_record pages ckpts copied noted stays
-      | inr grows ↦
-          fit_grows old event reply new fit same from stored numbers forces.at_record pages ckpts copied noted grows
-    ]
+pub comes_few : (s : EngineState) (r : Record) → Comes s r → length s.log < MAX_RECORDS
+comes_few s r come = let room = come.room in omega (arith, length_push s.log r)
+
+-- with a page more in memory
+pub comes_with : (s : EngineState) (p : ℕ) (r : Record) → Comes s r → Comes (with_page s p) r
+comes_with s p r come = assumption (come)
+
+-- the state with the record of an accepted call at the end of its log
+pub fit_appended : (s : EngineState) (r : Record) → IsFit s → Comes s r
+    → IfSome (change_of r) (λ c. IsResident s.resident c.page) → IsFit (appended s r)
+fit_appended s r fit come there = fit_with s r s.left fit (record {
+  may_follow = come.may_follow;
+  room = come.room;
+  stands_at = come.stands_at;
+  no_count = transaction_gives_none r come.of_transaction;
+  gathered = gathered_later
+      (log_of s) r s.stored s.left fit.valid fit.linked come.of_transaction come.may_follow come.stands_at.lsn
+      fit.gathered;
+}) there
+
+-- ---- the log is forced, and a checkpoint is the master
+
+fit_forced : (s : EngineState) (lsn : ℕ) → IsFit s → Forces s (forced_to s lsn) → IsFit (forced_to s lsn)
+fit_forced s lsn fit forces =
+    let no_less : s.forced_end ≤ lsn = forces.1 in
+    let forced = forces.0 in
+    let counted : AreCounted (forced_to s lsn) = assumption (fit.counted) in
+    let stable : AreStable (forced_to s lsn) = record {
+      pages = All-weaker (λ page. page.lsn < s.forced_end) (λ page. page.lsn < lsn) (λ page low. omega arith) s.stored
+          fit.stable.pages;
+      images = λ p. later no_less (image_of s p) (fit.stable.images p);
+    } in
+    let master : HasMaster (log_of s) s.stored lsn s.master =
+    master_forced (log_of s) s.stored s.forced_end lsn s.master no_less fit.master in
+    let copied : AreCopied (log_of s) lsn s.stored s.copies =
+    copied_forced (log_of s) s.forced_end lsn s.stored s.copies no_less fit.copied in
+    assumption (forced, counted, stable, master, copied, fit)
+  where
+    later : s.forced_end ≤ lsn → (o : Option Page) → IfSome o (λ image. image.lsn < s.forced_end)
+        → IfSome o (λ image. image.lsn < lsn)
+    later no_less None is = tt
+    later no_less (Some image) is = omega arith
+
+fit_completed : (s : EngineState) (event : Event) → IsFit s → EventFits event → IsNoGrowth event → ¬ IsBeside event
+    → (passes : CkptEnds s) → IsFit (ckpt_end_effect s passes.ckpt).state
+fit_completed s event fit fits stays ckpt passes =
+    let c = passes.ckpt in
+    let makes : Makes s event (end_ckpt_record s c) =
+    MakesEndChkpt c ckpt passes.still_open passes.done passes.room in
+    let after = closed s c in
+    let now : IsFit after =
+    fit_with s (end_ckpt_record s c) pages_left fit
+    (made_comes s event (end_ckpt_record s c) fit fits stays makes) tt in
+    let all : IsFit (forced_to after (end after)) = fit_forced after (end after) now (all_forces after now.forced) in
+    let master = point_is_master s c fit passes.still_open passes.done in
+    let noted : HaveMaster (Some (point_of s c)) s.copies = λ id copy is. refl in
+    assumption (master, noted, all)
+
+-- ---- the moves of a step
+
+rest_fit : (event : Event) (reply : Result Answer Refusal) (s t : EngineState) → IsFit s → Rest event reply s t
+    → IsFit t
+rest_fit event reply s t fit Done = fit
+rest_fit event reply s t fit (Then (Forced lsn forces) rest) =
+    rest_fit event reply _ t (fit_forced s lsn fit (forces fit.forced)) rest
+rest_fit event reply s t fit (Then (Begun page within forced) rest) =
+    rest_fit event reply _ t (begun_fit s page fit within forced) rest
+rest_fit event reply s t fit (Then (Stored page image written writing storing) rest) =
+    rest_fit event reply _ t (stored_fit s event reply page image written writing fit storing) rest
+rest_fit event reply s t fit (Then (Copied copies changes are) rest) =
+    rest_fit event reply _ t (copied_fit (are fit).0 (are fit).1) rest
+  where
+    copied_fit : AreCopied (log_of s) s.forced_end s.stored copies → IsSome s.master → IsFit (with_copies s copies)
+    copied_fit copied some =
+        let noted : HaveMaster s.master copies = λ id copy is. some in
+        assumption (copied, noted, fit)
+rest_fit event reply s t fit (Then (Gathered left changes are) rest) =
+    rest_fit event reply _ t (gathered_fit (are fit)) rest
+  where
+    gathered_fit : AreGathered (log_of s) s.stored left → IsFit (gathering s left)
+    gathered_fit gathered = assumption (gathered, fit)
+
+-- where a record is appended, the page that it changes is in memory
+module _ (old : EngineState) (event : Event) (fit : IsFit old) where
+  start_fit : (pages : List Page) → Start old event pages → IsFit (holding old pages)
+  start_fit pages Here = fit
+  start_fit pages (Fetched p none needs) =
+      fetched_fit old p fit
+      (subst (λ (o : Option ℕ). IfSome o (λ q. q < volume_pages old)) needs (needed_within old event fit none))
+
+  added_fit : (pages : List Page) (r : Record) (left : Left) → Start old event pages → MayCome old r left
+      → IfSome (change_of r) (λ c. pages ≡ (with_page old c.page).resident)
+      → IsFit (gathering (appended (holding old pages) r) left)
+  added_fit pages r left start come needs =
+      fit_with (holding old pages) r left (start_fit pages start) (assumption (come))
+      (there (change_of r) (change_within (volume_pages old) r come.stands_at.within) needs)
+    where
+      there : (o : Option PageChange) → IfSome o (λ c. c.page < volume_pages old)
+          → IfSome o (λ c. pages ≡ (with_page old c.page).resident) → IfSome o (λ c. IsResident pages c.page)
+      there None inside is = tt
+      there (Some c) inside is =
+          subst (λ (ps : List Page). IsResident ps c.page) (sym is) (page_comes old c.page fit inside)
+
+moves_fit : (old : EngineState) (event : Event) (reply : Result Answer Refusal) (new : EngineState) → IsFit old
+    → EventFits event → Moves old event reply new → IsFit new
+moves_fit old event reply new fit fits (Keeps start unseen rest) =
+    rest_fit event reply _ new (start_fit old event fit _ start) rest
+moves_fit old event reply new fit fits (Adds r start makes stays needs shown rest) =
+    rest_fit event reply _ new
+    (added_fit old event fit _ r (left_with old.left r) start (made_comes old event r fit fits stays makes) needs) rest
+moves_fit old event reply new fit fits (Completes passes ckpt masters stays unseen) =
+    fit_completed old event fit fits stays ckpt passes
+moves_fit old event reply new fit fits (Extends count none grows begins writes shown) = extended_fit old count fit none
 
 pub fit_of_step : (old : EngineState) (event : Event) (reply : Result Answer Refusal) (new : EngineState) → IsFit old
     → EventFits event → Step old event reply new → IsFit new
-fit_of_step old (event.Extend count) reply new fit numbers step = fit_of_growth old count reply new fit step
-fit_of_step old event reply new fit numbers step = fit_of_call old event reply new fit numbers tt step
+fit_of_step old event reply new fit numbers step =
+    moves_fit old event reply new fit numbers (moves old event reply new step)
 
 pub fit_of_run : (old : EngineState) (events : List Event) (replies : List (Result Answer Refusal)) (new : EngineState)
     → IsFit old → All EventFits events → Run old events replies new → IsFit new

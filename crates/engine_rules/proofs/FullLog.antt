@@ -1,7 +1,7 @@
 -- A log that one transaction fills: a Begin and 524,286 Adds, and then no Add and no Begin; but its Commit, and then a
 -- Begin again.
-use Rattle.std.proofs.Common.{◌≡◌, ℕ, zero, suc, ◌+◌, ◌<◌, ◌≤◌, Bool, true, false, not, eqb, ◌&&◌, ◌||◌, List, [], ◌∷◌}
-use Rattle.std.proofs.Common.{length, refl, ap, ◌∙◌, arith}
+use Rattle.std.proofs.Common.{◌≡◌, ℕ, zero, suc, ◌+◌, ◌<◌, ◌≤◌, Bool, true, false, not, eqb, ◌&&◌}
+use Rattle.std.proofs.Common.{◌||◌, List, [], ◌∷◌, length, refl, ap, ◌∙◌, arith}
 use Rattle.std.specs.Prelude.{Option, Some, None, Ok, nat_le}
 use Rattle.std.specs.List.{filter, list_any, sum_by}
 use Rattle.std.specs.Option.{option_map}
@@ -11,23 +11,24 @@ use Rattle.page_core.specs.declared.change.Change.TheVariants.{Add}
 use Rattle.page_core.specs.declared.change.ChangeKind.TheVariants as kind
 use Rattle.log_records.specs.declared.limits.TheConstants.{MAX_OPEN, MAX_RECORDS}
 use Rattle.log_records.specs.Log.{IsPageCount}
-use Rattle.log_rules.specs.Transactions.{holder, is_open, is_rolling, keeps_out, last_lsn, open_in, owed, owed_by}
-use Rattle.log_rules.specs.Transactions.{pending}
+use Rattle.log_rules.specs.Transactions.{holder, is_open, is_rolling, keeps_out, last_lsn, open_in}
+use Rattle.log_rules.specs.Transactions.{owed, owed_by, pending}
 use Rattle.log_records.specs.Least.{least}
-use Rattle.log_rules.proofs.Public.{is_open_push_own, is_rolling_push, open_in_push_last, open_in_push_same}
-use Rattle.log_rules.proofs.Public.{claimed_update}
+use Rattle.log_rules.proofs.Public.{is_open_push_own, is_rolling_push, open_in_push_last}
+use Rattle.log_rules.proofs.Public.{open_in_push_same, claimed_update}
 use Rattle.engine_calls.specs.declared.event.Event.{Event}
 use Rattle.engine_calls.specs.declared.event.Event.TheVariants as event
 use Rattle.engine_calls.specs.declared.refusal.Refusal.{Refusal}
-use Rattle.engine_calls.specs.declared.refusal.Refusal.TheVariants.{LogFull, NoTxn, PageOut, SlotBusy, TooManyTxns}
+use Rattle.engine_calls.specs.declared.refusal.Refusal.TheVariants.{LogFull, NoTxn, PageOut}
+use Rattle.engine_calls.specs.declared.refusal.Refusal.TheVariants.{SlotBusy, TooManyTxns}
 use Rattle.engine_calls.specs.declared.refusal.Refusal.TheVariants.{TxnRolling}
-use Rattle.engine_rules.specs.EngineState.{EngineState, IsFit, commit_record, effect, end, new_state, update_record}
-use Rattle.engine_rules.specs.EngineState.{with_page}
-use Rattle.engine_rules.specs.EngineState.{volume_pages}
+use Rattle.engine_rules.specs.EngineState.{EngineState, IsFit, commit_record, effect, end}
+use Rattle.engine_rules.specs.EngineState.{new_state, update_record, with_page, volume_pages}
 use Rattle.buffer_pool.specs.Frames.{is_resident}
 use Rattle.buffer_pool.proofs.Public.{resident_later}
 use Rattle.engine_rules.proofs.PageComes.{page_comes}
-use Rattle.engine_rules.specs.Refusal.{active_refusal, frame_refusal, has_no_room, or_else, page_refusal, refused_if, refusal}
+use Rattle.engine_rules.specs.Refusal.{active_refusal, frame_refusal, has_no_room, or_else}
+use Rattle.engine_rules.specs.Refusal.{page_refusal, refused_if, refusal}
 use Rattle.engine_rules.proofs.Fit.{fit_of_step, new_is_fit}
 use Rattle.engine_rules.proofs.Follows.{add_follows}
 use Rattle.engine_rules.proofs.Refusals.{change_passes}

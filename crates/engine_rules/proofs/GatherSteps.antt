@@ -1,7 +1,8 @@
 -- What the steps of a gather append, and what is gathered after them.
-use Rattle.std.proofs.Common.{◌≡◌, ℕ, suc, ◌+◌, ◌-◌, ◌/◌, ◌<◌, ◌≤◌, ◌++◌, List, [], ◌∷◌, length, refl, sym, ap, subst, ◌∙◌}
-use Rattle.std.proofs.Common.{arith}
-use Rattle.std.specs.Prelude.{Option, Some, None, IfSome, IsSomeAnd, filter, min, nat_le, slice_get, take}
+use Rattle.std.proofs.Common.{◌≡◌, ℕ, suc, ◌+◌, ◌-◌, ◌/◌, ◌<◌, ◌≤◌, ◌++◌, List, [], ◌∷◌, length}
+use Rattle.std.proofs.Common.{refl, sym, ap, subst, ◌∙◌, arith}
+use Rattle.std.specs.Prelude.{Option, Some, None, IfSome, IsSomeAnd, filter, min, nat_le, slice_get}
+use Rattle.std.specs.Prelude.{take}
 use Rattle.std.specs.Option.{option_map_or}
 use Rattle.std.proofs.lemmas.List.{length-append, length-take}
 use Rattle.std.proofs.lemmas.List.Sums.{fold-append}
@@ -15,20 +16,20 @@ use Rattle.log_records.specs.Coverage.{dirty, next_dirty}
 use Rattle.log_records.specs.DirtyPage.{entries_of}
 use Rattle.log_records.specs.Log.{Log, StandsAt, lsn_of, page_count_below, with_next}
 use Rattle.log_records.proofs.Public.{page_count_at-append}
-use Rattle.log_rules.specs.Checkpoint.{Checkpoint, checkpoint_after, open_checkpoint, redo_point, with_pages}
-use Rattle.log_rules.specs.Checkpoint.{with_txn}
+use Rattle.log_rules.specs.Checkpoint.{Checkpoint, checkpoint_after, open_checkpoint, redo_point}
+use Rattle.log_rules.specs.Checkpoint.{with_pages, with_txn}
 use Rattle.log_rules.specs.Linked.{HasOldTxns, MayEnd, MayFollow}
 use Rattle.log_rules.specs.Transactions.{last_of}
 use Rattle.fuzzy_ckpt.specs.Ckpt.{AreCovered, CkptView, IsCkptOf, Phase, in_pages, in_txns}
 use Rattle.fuzzy_ckpt.specs.Steps.{end_of, last_page, new_ckpt, pages_of, past_pages}
 use Rattle.log_records.specs.declared.record.Record.TheVariants.{BeginChkpt}
-use Rattle.fuzzy_ckpt.proofs.Public.{begun_is, end_stands}
-use Rattle.fuzzy_ckpt.proofs.Public.{open_before, open_push}
-use Rattle.fuzzy_ckpt.proofs.Public.{MorePages, more_pages, none_covered, none_kept}
-use Rattle.fuzzy_ckpt.proofs.Public.{MoreTxns, all_passed, more_txns, txns_cover}
-use Rattle.engine_rules.specs.EngineState.{EngineState, IsFit, IsGathering, end, end_ckpt_record, log_of}
-use Rattle.engine_rules.specs.EngineState.{volume_pages}
-use Rattle.engine_rules.specs.Gather.{Left, behind_pages, behind_txns, none_left, pages_left, phase_of, session_of, txns_left}
+use Rattle.fuzzy_ckpt.proofs.Public.{begun_is, end_stands, open_before, open_push, MorePages}
+use Rattle.fuzzy_ckpt.proofs.Public.{more_pages, none_covered, none_kept, MoreTxns, all_passed}
+use Rattle.fuzzy_ckpt.proofs.Public.{more_txns, txns_cover}
+use Rattle.engine_rules.specs.EngineState.{EngineState, IsFit, IsGathering, end, end_ckpt_record}
+use Rattle.engine_rules.specs.EngineState.{log_of, volume_pages}
+use Rattle.engine_rules.specs.Gather.{Left, behind_pages, behind_txns, none_left, pages_left}
+use Rattle.engine_rules.specs.Gather.{phase_of, session_of, txns_left}
 use Rattle.engine_rules.proofs.Gathers.{AreGathered, FindsPages, FindsTxn, pages_record, txn_entry}
 
 -- the open checkpoint of a fit engine
@@ -84,14 +85,18 @@ none_of_some (a ∷ []) is = cc
 none_of_some (a ∷ b ∷ []) is = cc
 none_of_some (a ∷ b ∷ c ∷ rest) is = cc
 
--- the checkpoint as the session of its pages has it
-abbrev view_of : EngineState → Checkpoint → CkptView ℕ
-view_of s c = record {
+-- a checkpoint as its session has it, at that point of the gather
+abbrev view_at : {P : Type 0} → EngineState → Checkpoint → P → CkptView P
+view_at s c phase = record {
   begin = c.begin;
   pages = page_count_below (log_of s) c.begin;
   redo = redo_point c;
-  phase = behind_pages c;
+  phase = phase;
 }
+
+-- as the session of its pages has it
+abbrev view_of : EngineState → Checkpoint → CkptView ℕ
+view_of s c = view_at s c (behind_pages c)
 
 more : (s : EngineState) (c : Checkpoint) (pages : DirtyPages) → IsFit s → open_checkpoint s.log ≡ Some c
     → FindsPages s c (Some pages) → MorePages (log_of s) s.stored s.written (view_of s c) pages
@@ -163,15 +168,9 @@ pages_passed s c fit is finds =
     let now = gathering_of s c pages_left fit is finds.left in
     let none = none_of_some (next_dirty (dirty s.log s.written) (behind_pages c)) finds.found in
     let at : in_txns 0 ≡ in_txns (behind_txns c) = ap in_txns (sym (first_txn s c fit is finds.left)) in
-    let view : Phase → CkptView Phase = λ phase. record {
-      begin = c.begin;
-      pages = page_count_below (log_of s) c.begin;
-      redo = redo_point c;
-      phase = phase;
-    } in
     subst (λ (o : Option Checkpoint). IfSome o (IsGathering (log_of s) s.stored txns_left)) (sym is) (record {
-      ckpt = subst (λ p. IsCkptOf (log_of s) (view p)) at (none_kept (log_of s) (view_of s c) now.ckpt);
-      covered = subst (λ p. AreCovered s.log s.stored (view p)) at
+      ckpt = subst (λ (p : Phase). IsCkptOf (log_of s) (view_at s c p)) at (none_kept (log_of s) (view_of s c) now.ckpt);
+      covered = subst (λ (p : Phase). AreCovered s.log s.stored (view_at s c p)) at
           (none_covered (log_of s) s.stored s.written s.writing (view_of s c) fit.valid
           (sym fit.counted.written) fit.stored
           now.covered none 0);
@@ -181,12 +180,7 @@ pages_passed s c fit is finds =
 
 -- the checkpoint as the session of its transactions has it
 abbrev txn_view : EngineState → Checkpoint → CkptView ℕ
-txn_view s c = record {
-  begin = c.begin;
-  pages = page_count_below (log_of s) c.begin;
-  redo = redo_point c;
-  phase = behind_txns c;
-}
+txn_view s c = view_at s c (behind_txns c)
 
 one_more : (s : EngineState) (c : Checkpoint) (t : ℕ) → IsFit s → open_checkpoint s.log ≡ Some c → FindsTxn s c (Some t)
     → MoreTxns (log_of s) (txn_view s c) t
@@ -213,15 +207,9 @@ txn_gathered s c t fit is finds =
     let now = gathering_of s c txns_left fit is finds.left in
     let found = one_more s c t fit is finds in
     let at : in_txns (t + 1) ≡ in_txns (behind_txns (with_txn t c)) = ap in_txns (sym (cursor_after_txn c t)) in
-    let view : Phase → CkptView Phase = λ phase. record {
-      begin = c.begin;
-      pages = page_count_below (log_of s) c.begin;
-      redo = redo_point c;
-      phase = phase;
-    } in
     opened s r c (with_txn t c) txns_left is refl (record {
       ckpt = subst (IsCkptOf (with_next (log_of s) (r ∷ [])))
-          (ap view at ∙ sym (session_same (log_of s) r txns_left (with_txn t c) (begun_before s c fit is))) found.kept;
+          (ap (view_at s c) at ∙ sym (session_same (log_of s) r txns_left (with_txn t c) (begun_before s c fit is))) found.kept;
       covered = λ p d lt passed. txns_cover (log_of s)
           (txn_view s c) s.stored r fit.valid now.ckpt refl now.covered p d lt;
     })

@@ -15,11 +15,12 @@ use Rattle.fuzzy_ckpt.specs.Steps.{Gathering, gather_step, pages_of, past_pages,
 use Rattle.engine_calls.specs.declared.event.Answer.TheVariants as answer
 use Rattle.engine_calls.specs.declared.event.Event.TheVariants as event
 use Rattle.engine_calls.specs.declared.refusal.Refusal.TheVariants.{LogFault}
-use Rattle.engine_rules.specs.EngineState.{EngineState, IsGathering, Outcome, appended, ckpt_end_effect, closed, effect}
-use Rattle.engine_rules.specs.EngineState.{end, gather_effect, gathered_record, gathering, log_of, next_step}
+use Rattle.engine_rules.specs.EngineState.{EngineState, IsGathering, Outcome, appended}
+use Rattle.engine_rules.specs.EngineState.{ckpt_end_effect, closed, effect, end, gather_effect}
+use Rattle.engine_rules.specs.EngineState.{gathered_record, gathering, log_of, next_step}
 use Rattle.engine_rules.specs.Step.{Fails, ForcedPart}
-use Rattle.engine_rules.specs.Gather.{Left, behind_pages, behind_txns, left_of, none_left, pages_left, session_of}
-use Rattle.engine_rules.specs.Gather.{txns_left}
+use Rattle.engine_rules.specs.Gather.{Left, behind_pages, behind_txns, none_left, pages_left}
+use Rattle.engine_rules.specs.Gather.{session_of, txns_left}
 
 -- what is said of the open checkpoint, if one is
 abbrev pub AreGathered : Log → List Page → Left → Type 0
@@ -145,34 +146,6 @@ pub was_done : (s : EngineState) (c : Checkpoint) → open_checkpoint s.log ≡ 
     → Does s c None (done s)
 was_done s c still_open left =
     does s c (step_at s c none_left) still_open (at_left s c none_left left)
-
--- ---- what holds of the state after a checkpoint's call, whatever it finds
-
-pub gather_has : (P : EngineState → Type 0) (s : EngineState) → P s → ((left : Left) → P (gathering s left))
-    → ((r : Record) (left : Left) → P (gathering (appended s r) left)) → P (effect s event.CkptGather).state
-gather_has P s same passed taken = by_open (open_checkpoint s.log)
-  where
-    by_next : (left : Left) (next : Option Record) → P (gathering (option_map_or (appended s) next s) left)
-    by_next left None = passed left
-    by_next left (Some r) = taken r left
-
-    by_open : (o : Option Checkpoint) → P (option_map_or (λ c. gather_effect s (next_step s c)) o (record {
-      answer = answer.Done;
-      state = s;
-    })).state
-    by_open None = same
-    by_open (Some c) = let step = next_step s c in by_next (left_of step.ckpt.phase) step.next
-
-pub ckpt_end_has : (P : EngineState → Type 0) (s : EngineState) → P s
-    → ((c : Checkpoint) → P (ckpt_end_effect s c).state) → P (effect s event.CkptEnd).state
-ckpt_end_has P s same ended = by_open (open_checkpoint s.log)
-  where
-    by_open : (o : Option Checkpoint) → P (option_map_or (ckpt_end_effect s) o (record {
-      answer = answer.Point 0 0 0;
-      state = s;
-    })).state
-    by_open None = same
-    by_open (Some c) = ended c
 
 -- where the log's device failed at the end of a checkpoint
 pub closed_part : (old new : EngineState) → Fails old event.CkptEnd LogFault new

@@ -1,7 +1,7 @@
 -- The volume grows: an engine that was fit stays so.
-use Rattle.std.proofs.Common.{◌≡◌, ℕ, ◌-◌, ◌<◌, ◌≤◌, ◌++◌, [], ◌∷◌, length, get_or, map, refl, sym, ap, subst}
-use Rattle.std.proofs.Common.{◌∙◌, arith, inl, inr, false, true≢false, replicate}
-use Rattle.std.specs.Prelude.{IfSome, Option, Some, None, Result, Ok, Err, is_none}
+use Rattle.std.proofs.Common.{◌≡◌, ℕ, ◌-◌, ◌<◌, ◌≤◌, ◌++◌, [], ◌∷◌, length, get_or, map, refl, sym}
+use Rattle.std.proofs.Common.{ap, subst, ◌∙◌, arith, inl, inr, false, true≢false, replicate}
+use Rattle.std.specs.Prelude.{IfSome, Option, Some, None, Err, is_none}
 use Rattle.std.specs.List.{range_with_len}
 use Rattle.std.proofs.Math.Nat.{max-eq_right}
 use Rattle.std.proofs.lemmas.Bool.{cases_lt}
@@ -15,30 +15,26 @@ use Rattle.log_records.specs.declared.limits.TheConstants.{MAX_RECORDS}
 use Rattle.log_records.specs.Coverage.{AreStored, rec_lsn}
 use Rattle.log_records.specs.Image.{image}
 use Rattle.log_records.specs.Log.{with_next}
-use Rattle.log_records.proofs.Public.{image_is_clean, rec_later}
-use Rattle.log_records.proofs.Public.{page_count-push}
-use Rattle.log_records.proofs.Public.{image_past}
+use Rattle.log_records.proofs.Public.{image_is_clean, rec_later, page_count-push, image_past}
 use Rattle.log_records.proofs.Public.{stored_later}
 use Rattle.log_rules.specs.Checkpoint.{Checkpoint, open_checkpoint}
-use Rattle.log_rules.proofs.Public.{valid_next}
-use Rattle.log_rules.proofs.Public.{linked_push}
+use Rattle.log_rules.proofs.Public.{valid_next, linked_push}
 use Rattle.buffer_pool.specs.Frames.{IsResident}
 use Rattle.buffer_pool.specs.Pool.{is_clean}
 use Rattle.buffer_pool.proofs.Public.{extended_at, length-extended, stored_extended, stored_grown}
 use Rattle.buffer_pool.proofs.Public.{images_later, resident_later}
 use Rattle.fuzzy_ckpt.specs.declared.point.Point.{Point}
 use Rattle.fuzzy_ckpt.specs.Ckpt.{AreCovered, IsCkptOf}
-use Rattle.fuzzy_ckpt.proofs.Public.{all_grown, behind_grown, behind_later}
-use Rattle.fuzzy_ckpt.proofs.Public.{ckpt_grown, open_before, open_grown}
+use Rattle.fuzzy_ckpt.proofs.Public.{all_grown, behind_grown, behind_later, ckpt_grown, open_before}
+use Rattle.fuzzy_ckpt.proofs.Public.{open_grown}
 use Rattle.copy_coverage.specs.Copied.{AreCopied}
-use Rattle.copy_coverage.proofs.Public.{copied_later}
-use Rattle.copy_coverage.proofs.Public.{copied_grown}
-use Rattle.engine_calls.specs.declared.event.Answer.{Answer}
+use Rattle.copy_coverage.proofs.Public.{copied_later, copied_grown}
 use Rattle.engine_calls.specs.declared.event.Event.TheVariants as event
 use Rattle.engine_calls.specs.declared.refusal.Refusal.{Refusal}
 use Rattle.engine_calls.specs.declared.refusal.Refusal.TheVariants.{OutOfMemory, StoreFault}
-use Rattle.engine_rules.specs.EngineState.{AreCounted, AreHeld, AreStable, EngineState, IsFit, IsGathering, effect, end}
-use Rattle.engine_rules.specs.EngineState.{extend_record, log_of, volume_pages}
+use Rattle.engine_rules.specs.EngineState.{AreCounted, AreHeld, AreStable, EngineState, IsFit}
+use Rattle.engine_rules.specs.EngineState.{IsGathering, effect, end, extend_record, log_of}
+use Rattle.engine_rules.specs.EngineState.{volume_pages}
 use Rattle.engine_rules.specs.Gather.{session_of}
 use Rattle.engine_rules.specs.Refusal.{refusal}
 use Rattle.engine_rules.specs.Step.{Fails, Step}
@@ -46,6 +42,7 @@ use Rattle.engine_rules.proofs.Beside.{HasMaster, master_later}
 use Rattle.engine_rules.proofs.CkptFits.{forced_within}
 use Rattle.engine_rules.proofs.Gathers.{AreGathered}
 use Rattle.engine_rules.proofs.GatherSteps.{session_same}
+use Rattle.engine_rules.proofs.Makes.{Makes, MakesExtend}
 use Rattle.engine_rules.proofs.PageComes.{dirty_after}
 use Rattle.engine_rules.proofs.Refusals.{extend_passes}
 use Rattle.engine_rules.proofs.Rooms.{room_grows, room_push}
@@ -189,10 +186,11 @@ extended_fit s count fit none =
     let r = extend_record s count in
     let passes = extend_passes s count none in
     let few : length s.log < MAX_RECORDS = let room = passes.room in omega arith in
+    let makes : Makes s (event.Extend count) r = MakesExtend count (λ stays. stays) (λ stays. stays) passes in
     record {
-      valid = valid_next (log_of s) r fit.valid few (stands s (event.Extend count) r fit tt none refl) passes.more;
+      valid = valid_next (log_of s) r fit.valid few (stands s (event.Extend count) r fit tt makes) passes.more;
       linked = linked_push s.log r fit.linked tt;
-      room = room_push s.log r fit.room (room_grows s (event.Extend count) r fit none refl);
+      room = room_push s.log r fit.room (room_grows s (event.Extend count) r fit makes);
       forced = (fit.forced.0, omega (arith, fit.forced.1, length_push s.log r), fit.forced.2);
       counted = counted_then s count fit none;
       resident = images_later s.log r s.resident fit.resident;
@@ -215,8 +213,3 @@ growth_failed old count why new (inr both) = by_reason why both.1
     by_reason OutOfMemory fails = fails.1
     by_reason StoreFault fails = fails
     by_reason why fails = absurd fails
-
-pub fit_of_growth : (old : EngineState) (count : ℕ) (reply : Result Answer Refusal) (new : EngineState) → IsFit old
-    → Step old (event.Extend count) reply new → IsFit new
-fit_of_growth old count (Ok answer) new fit step = subst IsFit (sym step.2) (extended_fit old count fit step.0)
-fit_of_growth old count (Err why) new fit step = subst IsFit (sym (growth_failed old count why new step)) fit

@@ -9,12 +9,12 @@ pub mod CopySteps
 pub mod Fit
 pub mod Follows
 pub mod Forces
-pub mod FrameCounts
 pub mod FullLog
 pub mod GatherSteps
 pub mod Gathers
 pub mod Growth
-pub mod NoCounts
+pub mod Makes
+pub mod Moves
 pub mod Numbers
 pub mod PageComes
 pub mod PageLaws
@@ -27,5 +27,4 @@ pub mod Rooms
 pub mod Runs
 pub mod Stands
 pub mod Steps
-pub mod StepsBack
 pub mod Writes

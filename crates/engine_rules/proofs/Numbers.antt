@@ -13,8 +13,7 @@ use Rattle.log_records.specs.declared.record.Record.{Record}
 use Rattle.log_records.specs.Image.{image_from, with_record}
 use Rattle.log_rules.specs.Linked.{number_in}
 use Rattle.log_records.specs.Record.{IsPageChange, IsRecord}
-use Rattle.log_records.proofs.Public.{changed_fits, valid_change}
-use Rattle.log_records.proofs.Public.{with_record-has}
+use Rattle.log_records.proofs.Public.{changed_fits, valid_change, with_record-has}
 
 slots_with_record : (page : Page) (r : Record) → IsRecord r → All (λ n. n < 2 ^ 64) page.slots
     → All (λ n. n < 2 ^ 64) (with_record page r).slots

@@ -1,14 +1,15 @@
 -- A run that goes on by one step, and what its replies tell of the device.
-use Rattle.std.proofs.Common.{◌≡◌, ◌⊎◌, ℕ, ◌+◌, ◌<◌, ◌≤◌, ◌++◌, List, [], ◌∷◌, length, refl, ap, subst, ◌∙◌, arith}
-use Rattle.std.proofs.Common.{inl, inr}
+use Rattle.std.proofs.Common.{◌≡◌, ◌⊎◌, ℕ, ◌+◌, ◌<◌, ◌≤◌, ◌++◌, List, [], ◌∷◌, length, refl, ap}
+use Rattle.std.proofs.Common.{subst, ◌∙◌, arith, inl, inr}
 use Rattle.std.specs.Prelude.{Result, Ok, Err, All, Any, IfErr, OnOk}
 use Rattle.std.proofs.lemmas.List.{length_push}
-use Rattle.std.proofs.lemmas.List.Elements.{All-nil, All-push, Contains-append_left}
+use Rattle.std.proofs.lemmas.List.Elements.{All-push, Contains-append_left}
 use Rattle.std.proofs.lemmas.List.Quantifiers.{Any-push}
 use Rattle.engine_calls.specs.declared.event.Answer.{Answer}
 use Rattle.engine_calls.specs.declared.event.Event.{Event}
 use Rattle.engine_calls.specs.declared.refusal.Refusal.{Refusal}
-use Rattle.engine_calls.specs.declared.refusal.Refusal.TheVariants.{CommitUnsure, LogFault, StoreFault}
+use Rattle.engine_calls.specs.declared.refusal.Refusal.TheVariants.{CommitUnsure, LogFault}
+use Rattle.engine_calls.specs.declared.refusal.Refusal.TheVariants.{StoreFault}
 use Rattle.log_records.specs.Log.{lsn_of}
 use Rattle.log_store.specs.Stores.{StoreCall, SyncCall, nothing}
 use Rattle.page_store.specs.Store.{GrowCall, ReadCall, WriteCall}
@@ -16,11 +17,12 @@ use Rattle.engine_rules.specs.Asked.{Asks, FailsAsking, asked}
 use Rattle.engine_rules.specs.EngineState.{EngineState, EngineView, end, new_state}
 use Rattle.engine_rules.specs.Run.{Run}
 use Rattle.engine_calls.specs.declared.event.Event.TheVariants as event
-use Rattle.engine_rules.specs.Step.{FailsForcing, Forces, IsAtRepair, IsByDevice, IsByStore, IsFaultReply}
-use Rattle.engine_rules.specs.Step.{Step}
-use Rattle.engine_rules.specs.Step.{TellsOfFault}
-use Rattle.engine_rules.specs.Storage.{CallOn, CallsDevice, CallsStore, IsStoredOn, PlaysOn, RunOn, Storage}
-use Rattle.engine_rules.proofs.Steps.{stays_or_grows, stored_or_not}
+use Rattle.engine_rules.specs.Step.{FailsForcing, Forces, IsAtRepair, IsByDevice, IsByStore}
+use Rattle.engine_rules.specs.Step.{IsFaultReply, Step, TellsOfFault}
+use Rattle.engine_rules.specs.Storage.{CallOn, CallsDevice, CallsStore, IsStoredOn, PlaysOn, RunOn}
+use Rattle.engine_rules.specs.Storage.{Storage}
+use Rattle.engine_rules.proofs.Moves.{stored_or_not}
+use Rattle.engine_rules.proofs.Steps.{stays_or_grows}
 
 -- ---- one step more
 
@@ -52,9 +54,6 @@ pub record SomeFault (Of : Refusal → Type 0) (replies : List (Result Answer Re
 -- of one
 abbrev pub Tells : (Refusal → Type 0) → ℕ → List (Result Answer Refusal) → ℕ → Type 0
 Tells Of start replies now = NoFault Of replies start now ⊎ SomeFault Of replies start now
-
-pub tells_none : (Of : Refusal → Type 0) (start now : ℕ) → now ≡ start → Tells Of start [] now
-tells_none Of start now same = inl (record { sound = All-nil (IsSound Of); same = same })
 
 -- what is left as it was has not failed
 pub left_sound : (Of : Refusal → Type 0) {D : Type 0} (failures : D → ℕ) (old new : D) (reply : Result Answer Refusal)
@@ -119,20 +118,6 @@ pub tells_push : (Of : Refusal → Type 0) → ((why : Refusal) → Of why ⊎ (
 tells_push Of decides failures start old new replies reply tells sound no_failure cause =
     tells_next Of start (failures old) (failures new) replies reply (fault_or_sound Of decides reply) tells
     (counts Of failures old new reply sound no_failure cause)
-
-not_both : (Of : Refusal → Type 0) (replies : List (Result Answer Refusal)) → All (IsSound Of) replies
-    → Any (IsFaultReply Of) replies → ⊥
-not_both Of replies sound (k, x, lt, is, bad) = subst (IsSound Of) is (sound k x lt) bad
-
-pub same_if_sound : (Of : Refusal → Type 0) (start now : ℕ) (replies : List (Result Answer Refusal))
-    → Tells Of start replies now → All (λ reply. ¬ IsFaultReply Of reply) replies → now ≡ start
-same_if_sound Of start now replies (inl none) sound = none.same
-same_if_sound Of start now replies (inr some) sound = absurd (not_both Of replies sound some.fault)
-
-pub more_if_fault : (Of : Refusal → Type 0) (start now : ℕ) (replies : List (Result Answer Refusal))
-    → Tells Of start replies now → Any (IsFaultReply Of) replies → start < now
-more_if_fault Of start now replies (inl none) fault = absurd (not_both Of replies none.sound fault)
-more_if_fault Of start now replies (inr some) fault = some.more
 
 -- ---- each call for itself
 

@@ -1,6 +1,6 @@
 -- The laws of this crate that proofs of the crates above it cite. Its other lemmas are its own.
 
--- The open checkpoint and the master, while transactions and writes of pages go on beside them.
+-- The open checkpoint and the master, while records are appended and pages are stored.
 pub use Rattle.engine_rules.proofs.Beside.{master_forced}
 -- The calls that the log shows, after a step and after a run.
 pub use Rattle.engine_rules.proofs.Calls.{work_of_run}
@@ -14,10 +14,12 @@ pub use Rattle.engine_rules.proofs.Commits.{stays_forced, stays_kept}
 -- Each engine is fit: a new one, and one after a step.
 pub use Rattle.engine_rules.proofs.Fit.{Comes, comes, comes_few, comes_with, fit_appended}
 pub use Rattle.engine_rules.proofs.Fit.{fit_of_run, fit_of_step, new_is_fit}
--- The record of an accepted event may come behind the log.
-pub use Rattle.engine_rules.proofs.Follows.{follows, gather_record_has, none_is_not_some}
+-- The record that an accepted call appends.
+pub use Rattle.engine_rules.proofs.Makes.{gather_record_has, none_is_not_some}
+-- It may come behind the log.
+pub use Rattle.engine_rules.proofs.Follows.{follows}
 -- No step changes how many frames there are.
-pub use Rattle.engine_rules.proofs.FrameCounts.{frames_of_run}
+pub use Rattle.engine_rules.proofs.Runs.{frames_of_run}
 -- What the steps of a gather append, and what is gathered after them.
 pub use Rattle.engine_rules.proofs.GatherSteps.{begun_before, cursor_after_txn, end_ckpt_follows}
 pub use Rattle.engine_rules.proofs.GatherSteps.{first_txn, gathering_of, new_is_session}

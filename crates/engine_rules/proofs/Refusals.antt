@@ -1,7 +1,8 @@
 -- What an event that is not refused has passed.
-use Rattle.std.proofs.Common.{◌≡◌, ℕ, ◌+◌, ◌<◌, ◌≤◌, ◌⊎◌, Bool, true, false, ◌&&◌, ◌||◌, not, length, refl, sym, ap, ◌∙◌, inl}
-use Rattle.std.proofs.Common.{inr, subst}
-use Rattle.std.specs.Prelude.{IfSome, Option, Some, None, IsSome, is_none, is_some, nat_le, nat_lt, List, if◌then◌else◌}
+use Rattle.std.proofs.Common.{◌≡◌, ℕ, ◌+◌, ◌<◌, ◌≤◌, Bool, true, false, ◌&&◌, ◌||◌, not, length}
+use Rattle.std.proofs.Common.{refl, sym, ap, ◌∙◌, subst}
+use Rattle.std.specs.Prelude.{IfSome, Option, Some, None, IsSome, is_none, is_some, nat_le, nat_lt}
+use Rattle.std.specs.Prelude.{List, if◌then◌else◌}
 use Rattle.std.specs.Option.{option_map, option_map_or, option_or}
 use Rattle.std.proofs.lemmas.Option.{cond_some, same_Some}
 use Rattle.std.proofs.lemmas.Bool.{not-false, leb-false, ltb-false, ltb-true}
@@ -15,7 +16,8 @@ use Rattle.log_records.specs.declared.limits.TheConstants.{MAX_OPEN, MAX_RECORDS
 use Rattle.log_records.specs.declared.record.Record.{Record}
 use Rattle.log_rules.specs.Checkpoint.{Checkpoint, open_checkpoint}
 use Rattle.log_rules.specs.Savepoints.{savepoint}
-use Rattle.log_rules.specs.Transactions.{holder, is_open, is_rolling, last_of, open_in, owed, pending}
+use Rattle.log_rules.specs.Transactions.{holder, is_open, is_rolling, last_of, open_in, owed}
+use Rattle.log_rules.specs.Transactions.{pending}
 use Rattle.log_rules.specs.declared.pending_change.PendingChange.{PendingChange}
 use Rattle.fuzzy_ckpt.specs.declared.point.Point.{Point}
 use Rattle.copy_vault.specs.declared.fault.CopyFault.{CopyFault}
@@ -23,22 +25,28 @@ use Rattle.image_copies.specs.declared.copy_id.TheConstants.{MAX_COPIES}
 use Rattle.copy_vault.specs.declared.fault.CopyFault.TheVariants as fault
 use Rattle.copy_vault.specs.declared.fault.CopyFault.TheVariants.{PagesLeft}
 use Rattle.image_copies.specs.Copy.{CopyView, least_undecided}
-use Rattle.copy_vault.specs.Vault.{CopyState, complete, complete_refusal, drop_refusal, dropped, open_refusal, reading}
-use Rattle.copy_vault.specs.Vault.{seal_refusal, state_of}
+use Rattle.copy_vault.specs.Vault.{CopyState, complete, complete_refusal, drop_refusal, dropped}
+use Rattle.copy_vault.specs.Vault.{open_refusal, reading, seal_refusal, state_of}
 use Rattle.engine_calls.specs.declared.event.Event.{Event}
 use Rattle.engine_calls.specs.declared.event.Event.TheVariants as event
 use Rattle.engine_calls.specs.declared.refusal.Refusal.{Refusal}
-use Rattle.engine_calls.specs.declared.refusal.Refusal.TheVariants.{CkptOpen, CommitUnsure, GatherLeft, LogFault, LogFull, NoCkpt}
-use Rattle.engine_calls.specs.declared.refusal.Refusal.TheVariants.{NoMaster, NoTxn, PageDecided, NoWrite, NotDirty}
-use Rattle.engine_calls.specs.declared.refusal.Refusal.TheVariants.{NotRolling, PageOut, SlotBusy, SlotOut, TooManyTxns}
-use Rattle.engine_calls.specs.declared.refusal.Refusal.TheVariants.{NoSavepoint, NotLarger, PoolFull, TxnRolling, WriteBegun}
-use Rattle.engine_rules.specs.EngineState.{EngineState, gathered_record, image_of, page_needed, rec_lsn_of, taken_back}
-use Rattle.engine_rules.specs.EngineState.{volume_pages}
+use Rattle.engine_calls.specs.declared.refusal.Refusal.TheVariants.{CkptOpen, CommitUnsure}
+use Rattle.engine_calls.specs.declared.refusal.Refusal.TheVariants.{GatherLeft, LogFault, LogFull}
+use Rattle.engine_calls.specs.declared.refusal.Refusal.TheVariants.{NoCkpt, NoMaster, NoTxn}
+use Rattle.engine_calls.specs.declared.refusal.Refusal.TheVariants.{PageDecided, NoWrite, NotDirty}
+use Rattle.engine_calls.specs.declared.refusal.Refusal.TheVariants.{NotRolling, PageOut, SlotBusy}
+use Rattle.engine_calls.specs.declared.refusal.Refusal.TheVariants.{SlotOut, TooManyTxns}
+use Rattle.engine_calls.specs.declared.refusal.Refusal.TheVariants.{NoSavepoint, NotLarger}
+use Rattle.engine_calls.specs.declared.refusal.Refusal.TheVariants.{PoolFull, TxnRolling}
+use Rattle.engine_calls.specs.declared.refusal.Refusal.TheVariants.{WriteBegun}
+use Rattle.engine_rules.specs.EngineState.{EngineState, gathered_record, image_of, page_needed}
+use Rattle.engine_rules.specs.EngineState.{rec_lsn_of, taken_back, volume_pages}
 use Rattle.engine_rules.specs.Gather.{Left, is_done, none_left, pages_left, txns_left}
-use Rattle.engine_rules.specs.Refusal.{active_refusal, change_refusal, ckpt_refusal, copy_refusal, has_no_room}
+use Rattle.engine_rules.specs.Refusal.{active_refusal, change_refusal, ckpt_refusal, copy_refusal}
+use Rattle.engine_rules.specs.Refusal.{has_no_room, frame_refusal, or_else, page_refusal}
+use Rattle.engine_rules.specs.Refusal.{refused_if, refusal, rolling_refusal, pages_in}
 use Rattle.engine_calls.specs.Refusal.{of_vault}
-use Rattle.engine_rules.specs.Refusal.{frame_refusal, or_else, page_refusal, refused_if, refusal, rolling_refusal}
-use Rattle.engine_rules.specs.Refusal.{pages_in}
+use Rattle.engine_rules.specs.Step.{IsByDevice}
 
 -- ---- one test, and two
 
@@ -162,127 +170,134 @@ undo_passes s txn none =
 pub back_passes : (s : EngineState) (txn at : ℕ) → refusal s (event.UndoTo txn at) ≡ None → ActiveIn s txn
 back_passes s txn at none = active_passes s txn (none_of_both (active_refusal s txn) _ none).0
 
--- ---- a Commit is not refused as unsure
+-- ---- refusals of a kind that is never due
 
--- the refusal of two tests is one of those that they name
-one_of_both : (first second : Bool) (a b why : Refusal) → or_else (refused_if first a) (refused_if second b) ≡ Some why
-    → (a ≡ why) ⊎ (b ≡ why)
-one_of_both true second a b why some = inl (same_Some a why some)
-one_of_both false true a b why some = inr (same_Some b why some)
-one_of_both false false a b why some = absurd (cc)
+record Never (Of : Refusal → Type 0) (o : Option Refusal) : Type 0 where
+  due : (why : Refusal) → o ≡ Some why → ¬ Of why
 
+-- a test gives only the refusal that it names
+test : (Of : Refusal → Type 0) (holds : Bool) (why : Refusal) → ¬ Of why → Never Of (refused_if holds why)
+test Of true why other = record { due = λ which is. subst (λ w. ¬ Of w) (same_Some why which is) other }
+test Of false why other = record { due = λ which is. absurd (cc) }
+
+both : (Of : Refusal → Type 0) (a b : Option Refusal) → Never Of a → Never Of b → Never Of (or_else a b)
+both Of None b first second = second
+both Of (Some why) b first second = first
+
+of_active : (Of : Refusal → Type 0) (s : EngineState) (txn : ℕ) → ¬ Of NoTxn → ¬ Of TxnRolling
+    → Never Of (active_refusal s txn)
+of_active Of s txn none rolling = both Of _ _ (test Of _ NoTxn none) (test Of _ TxnRolling rolling)
+
+-- the log's device fails only later
 pub commit_not_unsure : (s : EngineState) (txn lsn : ℕ) → active_refusal s txn ≡ Some (CommitUnsure lsn) → ⊥
-commit_not_unsure s txn lsn some =
-    elim (one_of_both (not (is_open s.log txn)) (is_rolling s.log txn) NoTxn TxnRolling (CommitUnsure lsn) some) [
-      | inl same ↦ (cc)
-      | inr same ↦ (cc)
-    ]
+commit_not_unsure s txn lsn is =
+    (of_active IsByDevice s txn (λ h. h) (λ h. h)).due _ is tt
 
 pub commit_not_by_device : (s : EngineState) (txn : ℕ) → active_refusal s txn ≡ Some LogFault → ⊥
-commit_not_by_device s txn some =
-    elim (one_of_both (not (is_open s.log txn)) (is_rolling s.log txn) NoTxn TxnRolling LogFault some) [
-      | inl same ↦ (cc)
-      | inr same ↦ (cc)
-    ]
+commit_not_by_device s txn is =
+    (of_active IsByDevice s txn (λ h. h) (λ h. h)).due _ is tt
+
+pub end_not_by_device : (s : EngineState) → refusal s event.CkptEnd ≡ Some LogFault → ⊥
+end_not_by_device s is =
+    let never : Never IsByDevice (refusal s event.CkptEnd) =
+    both _ _ _ (test _ _ NoCkpt (λ h. h)) (both _ _ _ (test _ _ GatherLeft (λ h. h)) (test _ _ LogFull (λ h. h))) in
+    never.due _ is tt
 
 -- ---- the log is full
 
--- the second of two refusals, which the first never is
-second_of_both : (a b : Option Refusal) (why : Refusal) → (a ≡ Some why → ⊥) → or_else a b ≡ Some why
-    → (a ≡ None) × (b ≡ Some why)
-second_of_both None b why never some = (refl, some)
-second_of_both (Some other) b why never some = absurd (never some)
+abbrev IsFull : Refusal → Type 0
+IsFull LogFull = Unit {0}
+IsFull other = ⊥
 
-refused_so : (test : Bool) (why other : Refusal) → refused_if test why ≡ Some other → (test ≡ true) × (why ≡ other)
-refused_so test why other some = cond_some test why other some
+-- the second of two refusals, where the first never is
+second_of_both : (a b : Option Refusal) → Never IsFull a → or_else a b ≡ Some LogFull → (a ≡ None) × (b ≡ Some LogFull)
+second_of_both None b never full = (refl, full)
+second_of_both (Some why) b never full = absurd (never.due LogFull full tt)
 
-busy_not_full : (o : Option ℕ) → option_map SlotBusy o ≡ Some LogFull → ⊥
-busy_not_full None some = (cc)
-busy_not_full (Some txn) some = let same = same_Some _ _ some in (cc)
-
--- a test does not give a refusal that it does not name
-not_of_one : (test : Bool) (a why : Refusal) → (a ≡ why → ⊥) → refused_if test a ≡ Some why → ⊥
-not_of_one test a why not_a some = not_a (refused_so test a why some).1
-
--- nor do two
-not_of_both : (first second : Bool) (a b why : Refusal) → (a ≡ why → ⊥) → (b ≡ why → ⊥)
-    → or_else (refused_if first a) (refused_if second b) ≡ Some why → ⊥
-not_of_both first second a b why not_a not_b some =
-    elim (one_of_both first second a b why some) [ inl same ↦ not_a same | inr same ↦ not_b same ]
-
--- a page that finds no frame is refused for that
-frame_not_full : (s : EngineState) (page : ℕ) → frame_refusal s page ≡ Some LogFull → ⊥
-frame_not_full s page full = not_of_one _ PoolFull LogFull (λ same. (cc)) full
+refused_so : (holds : Bool) (why other : Refusal) → refused_if holds why ≡ Some other → (holds ≡ true) × (why ≡ other)
+refused_so holds why other some = cond_some holds why other some
 
 -- the first of two refusals, where the second is another one
-full_first : (test : Bool) (b : Option Refusal) → (b ≡ Some LogFull → ⊥)
-    → or_else (refused_if test LogFull) b ≡ Some LogFull → test ≡ true
+full_first : (holds : Bool) (b : Option Refusal) → Never IsFull b → or_else (refused_if holds LogFull) b ≡ Some LogFull
+    → holds ≡ true
 full_first true b never full = refl
-full_first false b never full = absurd (never full)
+full_first false b never full = absurd (never.due LogFull full tt)
+
+never_busy : (o : Option ℕ) → Never IsFull (option_map SlotBusy o)
+never_busy None = record { due = λ why is. absurd (cc) }
+never_busy (Some txn) = test IsFull true (SlotBusy txn) (λ h. h)
+
+-- the page of a change that is taken back finds no frame
+never_framed : (s : EngineState) (o : Option PendingChange)
+    → Never IsFull (option_map_or (λ p. frame_refusal s p.page) o None)
+never_framed s None = record { due = λ why is. absurd (cc) }
+never_framed s (Some p) = test IsFull _ PoolFull (λ h. h)
+
+never_of_vault : (o : Option CopyFault) → Never IsFull (option_map of_vault o)
+never_of_vault None = record { due = λ why is. absurd (cc) }
+never_of_vault (Some fault.OutOfMemory) = test IsFull true _ (λ h. h)
+never_of_vault (Some other) = test IsFull true _ (λ h. h)
 
 -- a Begin is refused for room alone
 pub begin_full : (s : EngineState) → refusal s event.Begin ≡ Some LogFull
     → (length (open_in s.log) < MAX_OPEN) × (MAX_RECORDS < length s.log + owed s.log + 3)
 begin_full s full =
-    let few = not_of_one _ TooManyTxns LogFull (λ same. (cc)) in
-    let both = second_of_both (refused_if _ TooManyTxns) _ LogFull few full in
-    (leb-false _ _ (not_refused _ _ both.0), ltb-true _ _ (refused_so _ _ _ both.1).0)
+    let rest = second_of_both _ _ (test _ _ TooManyTxns (λ h. h)) full in
+    (leb-false _ _ (not_refused _ _ rest.0), ltb-true _ _ (refused_so _ _ _ rest.1).0)
 
 -- and so is a change
 pub change_full : (s : EngineState) (txn page slot : ℕ) (kind : ChangeKind)
     → change_refusal s txn page slot kind ≡ Some LogFull
     → ActiveIn s txn × (holder s.log page slot kind txn ≡ None) × (MAX_RECORDS < length s.log + owed s.log + 2)
 change_full s txn page slot kind full =
-    let active = second_of_both (active_refusal s txn) _ LogFull
-    (not_of_both _ _ NoTxn TxnRolling LogFull (λ same. (cc)) (λ same. (cc))) full in
-    let place = second_of_both (page_refusal s page slot) _ LogFull
-    (not_of_both _ _ PageOut SlotOut LogFull (λ same. (cc)) (λ same. (cc))) active.1 in
-    let free = second_of_both (option_map SlotBusy (holder s.log page slot kind txn)) _ LogFull
-    (busy_not_full (holder s.log page slot kind txn)) place.1 in (
+    let active = second_of_both (active_refusal s txn) _
+    (of_active IsFull s txn (λ h. h) (λ h. h)) full in
+    let place = second_of_both (page_refusal s page slot) _
+    (both _ _ _ (test _ _ PageOut (λ h. h)) (test _ _ SlotOut (λ h. h))) active.1 in
+    let free = second_of_both (option_map SlotBusy (holder s.log page slot kind txn)) _ (never_busy _) place.1 in (
       active_passes s txn active.0,
       not_busy _ free.0,
-      ltb-true _ _ (full_first (has_no_room s 2) (frame_refusal s page)
-          (frame_not_full s page) free.1),
+      ltb-true _ _ (full_first (has_no_room s 2) (frame_refusal s page) (test _ _ PoolFull (λ h. h)) free.1),
     )
 
--- no other call is
-pub active_not_full : (s : EngineState) (txn : ℕ) → active_refusal s txn ≡ Some LogFull → ⊥
-active_not_full s txn full = not_of_both _ _ NoTxn TxnRolling LogFull (λ same. (cc)) (λ same. (cc)) full
+-- a call that needs no room in the log
+abbrev pub NeedsNoRoom : Event → Type 0
+NeedsNoRoom event.Begin = ⊥
+NeedsNoRoom (event.Set txn page slot number) = ⊥
+NeedsNoRoom (event.Add txn page slot amount) = ⊥
+NeedsNoRoom event.CkptBegin = ⊥
+NeedsNoRoom event.CkptGather = ⊥
+NeedsNoRoom event.CkptEnd = ⊥
+NeedsNoRoom (event.Extend count) = ⊥
+NeedsNoRoom other = Unit {0}
 
-pub read_not_full : (s : EngineState) (page slot : ℕ) → refusal s (event.Read page slot) ≡ Some LogFull → ⊥
-read_not_full s page slot full =
-    frame_not_full s page (second_of_both (page_refusal s page slot) _ LogFull
-    (not_of_both _ _ PageOut SlotOut LogFull (λ same. (cc)) (λ same. (cc))) full).1
+needs_no_room : (s : EngineState) (event : Event) → NeedsNoRoom event → Never IsFull (refusal s event)
+needs_no_room s (event.Read page slot) is =
+    both _ _ _ (both _ _ _ (test _ _ PageOut (λ h. h)) (test _ _ SlotOut (λ h. h))) (test _ _ PoolFull (λ h. h))
+needs_no_room s (event.Commit txn) is = of_active IsFull s txn (λ h. h) (λ h. h)
+needs_no_room s (event.Abort txn) is = of_active IsFull s txn (λ h. h) (λ h. h)
+needs_no_room s (event.UndoStep txn) is =
+    both _ _ _ (both _ _ _ (test _ _ NoTxn (λ h. h)) (test _ _ NotRolling (λ h. h))) (never_framed s _)
+needs_no_room s (event.Savepoint txn) is = of_active IsFull s txn (λ h. h) (λ h. h)
+needs_no_room s (event.UndoTo txn at) is =
+    both _ _ _ (of_active IsFull s txn (λ h. h) (λ h. h))
+    (both _ _ _ (test _ _ NoSavepoint (λ h. h)) (never_framed s _))
+needs_no_room s event.Force is = record { due = λ why is. absurd (cc) }
+needs_no_room s (event.WriteBegin page) is =
+    both _ _ _ (test _ _ PageOut (λ h. h)) (both _ _ _ (test _ _ WriteBegun (λ h. h)) (test _ _ NotDirty (λ h. h)))
+needs_no_room s (event.WriteEnd page) is = both _ _ _ (test _ _ PageOut (λ h. h)) (test _ _ NoWrite (λ h. h))
+needs_no_room s event.CopyFull is = both _ _ _ (test _ _ NoMaster (λ h. h)) (never_of_vault _)
+needs_no_room s (event.CopyInc parent) is = never_of_vault _
+needs_no_room s (event.Take copy page) is =
+    both _ _ _ (never_of_vault _) (both _ _ _ (test _ _ PageOut (λ h. h)) (test _ _ PageDecided (λ h. h)))
+needs_no_room s (event.Seal copy) is = never_of_vault _
+needs_no_room s (event.DropCopy copy) is = never_of_vault _
+needs_no_room s (event.Repair copy page) is =
+    both _ _ _ (never_of_vault _) (both _ _ _ (test _ _ PageOut (λ h. h)) (test _ _ WriteBegun (λ h. h)))
+needs_no_room s event is = absurd is
 
-pub undo_not_full : (s : EngineState) (txn : ℕ) → refusal s (event.UndoStep txn) ≡ Some LogFull → ⊥
-undo_not_full s txn full =
-    let frame = second_of_both (rolling_refusal s txn) _ LogFull
-    (not_of_both _ _ NoTxn NotRolling LogFull (λ same. (cc)) (λ same. (cc))) full in
-    by_last (last_of (pending s.log txn)) frame.1
-  where
-    by_last : (o : Option PendingChange) → option_map_or (λ p. frame_refusal s p.page) o None ≡ Some LogFull → ⊥
-    by_last None e = (cc)
-    by_last (Some p) e = frame_not_full s p.page e
-
-pub back_not_full : (s : EngineState) (txn at : ℕ) → refusal s (event.UndoTo txn at) ≡ Some LogFull → ⊥
-back_not_full s txn at full =
-    let known = second_of_both (active_refusal s txn) _ LogFull
-    (not_of_both _ _ NoTxn TxnRolling LogFull (λ same. (cc)) (λ same. (cc))) full in
-    let frame = second_of_both (refused_if (is_none (savepoint s.log txn at)) NoSavepoint) _ LogFull
-    (not_of_one _ NoSavepoint LogFull (λ same. (cc))) known.1 in
-    by_taken (taken_back s txn at) frame.1
-  where
-    by_taken : (o : Option PendingChange) → option_map_or (λ p. frame_refusal s p.page) o None ≡ Some LogFull → ⊥
-    by_taken None e = (cc)
-    by_taken (Some p) e = frame_not_full s p.page e
-
-pub write_begin_not_full : (s : EngineState) (page : ℕ) → refusal s (event.WriteBegin page) ≡ Some LogFull → ⊥
-write_begin_not_full s page full =
-    not_of_both _ _ WriteBegun NotDirty LogFull (λ same. (cc)) (λ same. (cc))
-    (second_of_both (refused_if _ PageOut) _ LogFull (not_of_one _ PageOut LogFull (λ same. (cc))) full).1
-
-pub write_end_not_full : (s : EngineState) (page : ℕ) → refusal s (event.WriteEnd page) ≡ Some LogFull → ⊥
-write_end_not_full s page full = not_of_both _ _ PageOut NoWrite LogFull (λ same. (cc)) (λ same. (cc)) full
+pub never_full : (s : EngineState) (event : Event) → NeedsNoRoom event → refusal s event ≡ Some LogFull → ⊥
+never_full s event is full = (needs_no_room s event is).due LogFull full tt
 
 -- ---- writes of pages
 
@@ -392,7 +407,7 @@ some_if (Some x) is = (x, refl)
 pub ckpt_begin_full : (s : EngineState) → refusal s event.CkptBegin ≡ Some LogFull
     → (open_checkpoint s.log ≡ None) × (MAX_RECORDS < length s.log + owed s.log + 1)
 ckpt_begin_full s full =
-    let both = second_of_both (refused_if _ CkptOpen) _ LogFull (not_of_one _ CkptOpen LogFull (λ same. (cc))) full in
+    let both = second_of_both _ _ (test _ _ CkptOpen (λ h. h)) full in
     (none_by_test (open_checkpoint s.log) (not_refused _ _ both.0), ltb-true _ _ (refused_so _ _ _ both.1).0)
 
 -- a step of a gather that would append a record, and has no room for it
@@ -405,7 +420,7 @@ pub record GatherIsFull (s : EngineState) : Type 0 where
 
 pub gather_full : (s : EngineState) → refusal s event.CkptGather ≡ Some LogFull → GatherIsFull s
 gather_full s full =
-    let both = second_of_both (ckpt_refusal s) _ LogFull (not_of_one _ NoCkpt LogFull (λ same. (cc))) full in
+    let both = second_of_both (ckpt_refusal s) _ (test _ _ NoCkpt (λ h. h)) full in
     let some = some_by_test (open_checkpoint s.log) (not_refused _ _ both.0) in
     let tests = both_hold _ _ (refused_so _ _ _ both.1).0 in
     let appends = some_if (gathered_record s) tests.0 in
@@ -426,10 +441,9 @@ pub record EndIsFull (s : EngineState) : Type 0 where
 
 pub ckpt_end_full : (s : EngineState) → refusal s event.CkptEnd ≡ Some LogFull → EndIsFull s
 ckpt_end_full s full =
-    let both = second_of_both (ckpt_refusal s) _ LogFull (not_of_one _ NoCkpt LogFull (λ same. (cc))) full in
+    let both = second_of_both (ckpt_refusal s) _ (test _ _ NoCkpt (λ h. h)) full in
     let some = some_by_test (open_checkpoint s.log) (not_refused _ _ both.0) in
-    let rest = second_of_both (refused_if _ GatherLeft) _ LogFull (not_of_one _ GatherLeft LogFull (λ same.
-    (cc))) both.1 in
+    let rest = second_of_both _ _ (test _ _ GatherLeft (λ h. h)) both.1 in
     record {
       ckpt = some.0;
       still_open = some.1;
@@ -462,51 +476,10 @@ extend_passes s count none =
 pub extend_full : (s : EngineState) (count : ℕ) → refusal s (event.Extend count) ≡ Some LogFull
     → MAX_RECORDS < length s.log + owed s.log + 1
 extend_full s count full =
-    let both = second_of_both (refused_if _ (NotLarger (volume_pages s))) _ LogFull
-    (not_of_one _ (NotLarger (volume_pages s)) LogFull (λ same. (cc))) full in
+    let both = second_of_both _ _ (test _ _ (NotLarger (volume_pages s)) (λ h. h)) full in
     ltb-true _ _ (refused_so _ _ _ both.1).0
 
 -- ---- calls on copies
-
--- a refusal of the vault is none for want of room in the log
-vault_not_full : (o : Option CopyFault) → option_map of_vault o ≡ Some LogFull → ⊥
-vault_not_full None full = cc
-vault_not_full (Some fault.OutOfMemory) full = cc
-vault_not_full (Some fault.NoCopy) full = cc
-vault_not_full (Some fault.CopyNotOpen) full = cc
-vault_not_full (Some fault.CopyNotComplete) full = cc
-vault_not_full (Some (fault.PagesLeft page)) full = cc
-vault_not_full (Some fault.TooManyCopies) full = cc
-
-take_not_full : (s : EngineState) (copy page : ℕ) → refusal s (event.Take copy page) ≡ Some LogFull → ⊥
-take_not_full s copy page full =
-    not_of_both _ _ PageOut PageDecided LogFull (λ same. (cc)) (λ same. (cc))
-    (second_of_both (copy_refusal s copy) _ LogFull (vault_not_full _) full).1
-
-repair_not_full : (s : EngineState) (copy page : ℕ) → refusal s (event.Repair copy page) ≡ Some LogFull → ⊥
-repair_not_full s copy page full =
-    not_of_both _ _ PageOut WriteBegun LogFull (λ same. (cc)) (λ same. (cc))
-    (second_of_both (option_map of_vault (complete_refusal (state_of s.copies copy))) _ LogFull (vault_not_full _) full).1
-
-abbrev pub IsOfCopies : Event → Type 0
-IsOfCopies event.CopyFull = Unit {0}
-IsOfCopies (event.CopyInc parent) = Unit {0}
-IsOfCopies (event.Take copy page) = Unit {0}
-IsOfCopies (event.Seal copy) = Unit {0}
-IsOfCopies (event.DropCopy copy) = Unit {0}
-IsOfCopies (event.Repair copy page) = Unit {0}
-IsOfCopies other = ⊥
-
-pub copy_not_full : (s : EngineState) (event : Event) → IsOfCopies event → refusal s event ≡ Some LogFull → ⊥
-copy_not_full s event.CopyFull is full =
-    vault_not_full _ (second_of_both (refused_if _ NoMaster) _ LogFull
-    (not_of_one _ NoMaster LogFull (λ same. (cc))) full).1
-copy_not_full s (event.CopyInc parent) is full = vault_not_full _ full
-copy_not_full s (event.Take copy page) is full = take_not_full s copy page full
-copy_not_full s (event.Seal copy) is full = vault_not_full _ full
-copy_not_full s (event.DropCopy copy) is full = vault_not_full _ full
-copy_not_full s (event.Repair copy page) is full = repair_not_full s copy page full
-copy_not_full s event is full = absurd is
 
 -- a copy that is to be read on is being read
 vault_passes : (o : Option CopyFault) → option_map of_vault o ≡ None → o ≡ None

@@ -1,9 +1,8 @@
 -- The pages in memory: at most as many as there are frames, and each of them once.
-use Rattle.std.proofs.Common.{◌≡◌, ℕ, ◌+◌, ◌<◌, ◌≤◌, ◌++◌, ◌||◌, Bool, true, false, cond, List, [], ◌∷◌, length, map}
-use Rattle.std.proofs.Common.{nat_eq, refl, sym, ap, subst, ◌∙◌, arith, inl, inr}
-use Rattle.std.specs.Prelude.{◌==◌, Option, Some, None, IfSome, Result, Ok, Err}
+use Rattle.std.proofs.Common.{◌≡◌, ℕ, ◌+◌, ◌<◌, ◌≤◌, ◌++◌, ◌||◌, Bool, true, false, cond, List, []}
+use Rattle.std.proofs.Common.{◌∷◌, length, map, nat_eq, refl, sym, ap, subst, ◌∙◌, arith, inl, inr}
+use Rattle.std.specs.Prelude.{◌==◌, Option, None, IfSome, Result}
 use Rattle.std.specs.List.{All, AllByRecursion, IsDistinct, list_any}
-use Rattle.std.specs.Option.{option_map_or}
 use Rattle.std.proofs.lemmas.Bool.{cases_lt, not-false}
 use Rattle.std.proofs.lemmas.Cmp.{nat_eq_equiv}
 use Rattle.std.proofs.lemmas.List.{length-map, length_push, map-append}
@@ -20,17 +19,19 @@ use Rattle.buffer_pool.proofs.Public.{numbers_later}
 use Rattle.engine_calls.specs.declared.event.Answer.{Answer}
 use Rattle.engine_calls.specs.declared.event.Event.{Event}
 use Rattle.engine_calls.specs.declared.refusal.Refusal.{Refusal}
-use Rattle.engine_rules.specs.EngineState.{EngineState, IsFit, new_state, page_needed, stored_page, with_page}
-use Rattle.engine_rules.specs.EngineState.{volume_pages}
+use Rattle.engine_rules.specs.EngineState.{EngineState, IsFit, end_ckpt_record, extend_record}
+use Rattle.engine_rules.specs.EngineState.{new_state, stored_page, with_page, volume_pages}
 use Rattle.engine_calls.specs.EventFits.{EventFits}
 use Rattle.engine_rules.specs.Refusal.{frame_refusal}
 use Rattle.engine_rules.specs.Run.{Run}
 use Rattle.engine_rules.specs.Step.{Step}
 use Rattle.engine_rules.proofs.Fit.{fit_of_step, new_is_fit}
-use Rattle.engine_rules.proofs.FrameCounts.{frames_of_run, frames_of_step}
+use Rattle.engine_rules.proofs.Runs.{frames_of_run}
 use Rattle.engine_rules.proofs.PageComes.{needed_within, number_is}
 use Rattle.engine_rules.proofs.Refusals.{frame_passes, needed_passes}
-use Rattle.engine_rules.proofs.Steps.{start, stays_or_grows}
+use Rattle.engine_rules.proofs.Moves.{Adds, Completes, Extends, Fetched, Here, Keeps, Moves, Start}
+use Rattle.engine_rules.proofs.Moves.{moves}
+use Rattle.engine_rules.proofs.Steps.{rest_memory, step_leaves}
 
 pub record AreFramed (frames : ℕ) (pages : List Page) : Type 0 where
   pub few : length pages ≤ frames
@@ -145,17 +146,13 @@ page_framed s p fit within none framed = by_test (is_resident s.resident p) refl
       | inr many ↦ full absent many
     ]
 
-start_framed : (old : EngineState) (event : Event) (reply : Result Answer Refusal) (new : EngineState) → IsFit old
-    → Step old event reply new → AreFramed old.frames old.resident
-    → AreFramed old.frames (start old event reply).resident
-start_framed old event (Ok answer) new fit step framed =
-    by_need (page_needed old event) (needed_within old event fit step.0) (needed_passes old event step.0)
-  where
-    by_need : (o : Option ℕ) → IfSome o (λ p. p < volume_pages old) → IfSome o (λ p. frame_refusal old p ≡ None)
-        → AreFramed old.frames (option_map_or (with_page old) o old).resident
-    by_need None within none = framed
-    by_need (Some p) within none = page_framed old p fit within none framed
-start_framed old event (Err why) new fit step framed = framed
+start_framed : (old : EngineState) (pages : List Page) (event : Event) → IsFit old → Start old event pages
+    → AreFramed old.frames old.resident → AreFramed old.frames pages
+start_framed old pages event fit Here framed = framed
+start_framed old pages event fit (Fetched p none needs) framed =
+    page_framed old p fit
+    (subst (λ (o : Option ℕ). IfSome o (λ q. q < volume_pages old)) needs (needed_within old event fit none))
+    (subst (λ (o : Option ℕ). IfSome o (λ q. frame_refusal old q ≡ None)) needs (needed_passes old event none)) framed
 
 -- ---- a step, and a run
 
@@ -166,17 +163,24 @@ changed frames pages r framed = record {
   distinct = subst (IsDistinct nat_eq) (sym (numbers_later pages r)) framed.distinct;
 }
 
+moves_framed : (old : EngineState) (event : Event) (reply : Result Answer Refusal) (new : EngineState) → IsFit old
+    → Moves old event reply new → AreFramed old.frames old.resident → AreFramed old.frames new.resident
+moves_framed old event reply new fit (Keeps start unseen rest) framed =
+    subst (AreFramed old.frames) (sym (rest_memory event reply _ new rest))
+    (start_framed old _ event fit start framed)
+moves_framed old event reply new fit (Adds r start makes stays needs shown rest) framed =
+    subst (AreFramed old.frames) (sym (rest_memory event reply _ new rest))
+    (changed old.frames _ r (start_framed old _ event fit start framed))
+moves_framed old event reply new fit (Completes passes ckpt masters stays unseen) framed =
+    changed old.frames old.resident (end_ckpt_record old passes.ckpt) framed
+moves_framed old event reply new fit (Extends count none grows begins writes shown) framed =
+    changed old.frames old.resident (extend_record old count) framed
+
 framed_step : (old : EngineState) (event : Event) (reply : Result Answer Refusal) (new : EngineState) → IsFit old
     → Step old event reply new → AreFramed old.frames old.resident → AreFramed new.frames new.resident
 framed_step old event reply new fit step framed =
-    let from = start_framed old event reply new fit step framed in
-    subst (λ n. AreFramed n new.resident) (sym (frames_of_step old event reply new step))
-    (elim (stays_or_grows old event reply new step) [
-      | inl stays ↦ subst (AreFramed old.frames) (sym stays.resident) from
-      | inr grows ↦
-          subst (AreFramed old.frames) (sym grows.resident)
-          (changed old.frames (start old event reply).resident grows.r from)
-    ])
+    subst (λ n. AreFramed n new.resident) (sym (step_leaves old event reply new step).frames)
+    (moves_framed old event reply new fit (moves old event reply new step) framed)
 
 framed_run : (old : EngineState) (events : List Event) (replies : List (Result Answer Refusal)) (new : EngineState)
     → IsFit old → All EventFits events → Run old events replies new → AreFramed old.frames old.resident

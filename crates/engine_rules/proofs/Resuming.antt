@@ -1,12 +1,11 @@
 -- An engine that goes on where an older one was lost is fit.
-use Rattle.std.proofs.Common.{◌≡◌, ℕ, ◌+◌, ◌<◌, ◌≤◌, List, [], ◌∷◌, length, get_or, map, take, refl, sym, ap, subst, ◌∙◌}
-use Rattle.std.proofs.Common.{arith, true, false}
+use Rattle.std.proofs.Common.{◌≡◌, ℕ, ◌<◌, List, [], ◌∷◌, length, get_or, take, refl, sym, ap}
+use Rattle.std.proofs.Common.{subst, ◌∙◌, arith, true, inl, inr, suc, drop, drop-cons, ◌++◌}
 use Rattle.std.specs.Prelude.{Contains, Option, Some, None, IfSome, IsSome, IsSomeAnd, is_none}
-use Rattle.std.proofs.Common.{inl, inr, suc, drop, drop-cons, ◌++◌}
 use Rattle.std.proofs.Math.Bool.{false≢true}
 use Rattle.std.proofs.Math.ListN.{get_or-map}
 use Rattle.std.proofs.lemmas.Bool.{cases_lt}
-use Rattle.std.specs.List.{All, range_with_len}
+use Rattle.std.specs.List.{All}
 use Rattle.std.specs.Option.{option_map, option_map_or}
 use Rattle.std.proofs.lemmas.List.{get_or_past, length-map, take-append-drop, take_all}
 use Rattle.std.proofs.lemmas.List.FromFn.{get_or-map-range_with_len, length-map-range_with_len}
@@ -16,26 +15,27 @@ use Rattle.log_records.specs.declared.record.Record.TheVariants.{EndChkpt}
 use Rattle.log_records.specs.Coverage.{Covers, rec_lsn}
 use Rattle.log_records.proofs.Public.{image_is_clean}
 use Rattle.log_records.specs.Image.{image, redo_all}
-use Rattle.log_records.specs.Log.{IsLog, Log, lsn_of, page_count, page_count_below}
+use Rattle.log_records.specs.Log.{IsLog, Log, lsn_of, page_count}
 use Rattle.log_records.specs.Record.{own_lsn}
-use Rattle.log_rules.specs.Checkpoint.{Checkpoint, IsCompleteCheckpoint, open_checkpoint, redo_point}
+use Rattle.log_rules.specs.Checkpoint.{Checkpoint, IsCompleteCheckpoint, open_checkpoint}
+use Rattle.log_rules.specs.Checkpoint.{redo_point}
 use Rattle.log_rules.specs.Linked.{HasOldTxns, IsLinked, MayEnd, MayFollow}
 use Rattle.log_rules.specs.Transactions.{open_in}
 use Rattle.log_rules.proofs.Public.{end-of_complete}
 use Rattle.log_store.specs.WrittenLog.{WrittenLog}
-use Rattle.buffer_pool.specs.Pool.{PageState, PoolView, clean_pool, is_clean, stored_as_now, stored_states}
-use Rattle.buffer_pool.specs.Pool.{unwritten, writing_of, written_of}
-use Rattle.buffer_pool.proofs.Public.{pool_resumed, state_of_page}
-use Rattle.buffer_pool.proofs.Public.{image_below}
+use Rattle.buffer_pool.specs.Pool.{PageState, PoolView, clean_pool, is_clean, stored_as_now}
+use Rattle.buffer_pool.specs.Pool.{stored_states, unwritten, writing_of, written_of}
+use Rattle.buffer_pool.proofs.Public.{pool_resumed, state_of_page, image_below}
 use Rattle.fuzzy_ckpt.specs.declared.point.Point.{Point}
-use Rattle.fuzzy_ckpt.specs.Ckpt.{AllCover, AreCovered, CkptView, IsCkptOf, Phase, gathered}
+use Rattle.fuzzy_ckpt.specs.Ckpt.{AllCover, CkptView, Phase}
 use Rattle.fuzzy_ckpt.specs.LogCheckpoints.{IsLastPoint, gathered_of}
 use Rattle.fuzzy_ckpt.proofs.Public.{now_covers}
 use Rattle.image_copies.specs.Copy.{CopyView}
 use Rattle.copy_vault.specs.Vault.{CopyState, complete, dropped, reading, state_of}
-use Rattle.copy_coverage.specs.Copied.{AreCopied, AreRestorable, copy_in}
+use Rattle.copy_coverage.specs.Copied.{AreCopied, copy_in}
 use Rattle.copy_coverage.specs.Retired.{HasRoomForUndo}
-use Rattle.engine_rules.specs.EngineState.{EngineState, HaveMaster, IsFit, IsGathering, IsMasterOf, MediaView, engine_view}
+use Rattle.engine_rules.specs.EngineState.{HaveMaster, IsFit, IsGathering, IsMasterOf, MediaView}
+use Rattle.engine_rules.specs.EngineState.{engine_view}
 use Rattle.engine_rules.specs.Gather.{Left, left_of, none_left, pages_left, session_of}
 use Rattle.engine_rules.specs.Resumed.{MayResume, resumed_state}
 

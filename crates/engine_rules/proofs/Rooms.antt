@@ -1,10 +1,9 @@
 -- The log has room for its records and for those that open transactions may still need.
-use Rattle.std.proofs.Common.{◌≡◌, ℕ, ◌+◌, ◌<◌, ◌≤◌, false, ◌++◌, List, [], ◌∷◌, length, refl, sym, subst, take, ◌∙◌, arith}
-use Rattle.std.proofs.Common.{inl, inr}
+use Rattle.std.proofs.Common.{◌≡◌, ℕ, ◌+◌, ◌<◌, ◌≤◌, false, ◌++◌, List, [], ◌∷◌, length, refl, sym}
+use Rattle.std.proofs.Common.{subst, take, ◌∙◌, arith, inl, inr}
 use Rattle.std.specs.Prelude.{Some, None, Ok}
 use Rattle.std.proofs.lemmas.Bool.{cases_lt}
 use Rattle.std.proofs.lemmas.List.{length_push, take-append-le, take_all}
-use Rattle.std.proofs.lemmas.Option.{same_Some}
 use Rattle.page_core.specs.declared.change.Change.{Change}
 use Rattle.page_core.specs.declared.change.Change.TheVariants.{Set, Add}
 use Rattle.page_core.specs.declared.change.ChangeKind.TheVariants as kind
@@ -13,25 +12,25 @@ use Rattle.log_records.specs.declared.record.Record.{Record}
 use Rattle.log_records.specs.declared.record.Record.TheVariants as log
 use Rattle.log_rules.specs.Linked.{MayFollow, number_in}
 use Rattle.log_rules.specs.Transactions.{begun_by, is_last, last_lsn, owed, txn_of}
-use Rattle.log_rules.proofs.Public.{claimed_aside, claimed_begin, claimed_push, claimed_update, needs}
+use Rattle.log_rules.proofs.Public.{claimed_aside, claimed_begin, claimed_push, claimed_update}
+use Rattle.log_rules.proofs.Public.{needs}
 use Rattle.engine_calls.specs.declared.event.Event.{Event}
 use Rattle.engine_calls.specs.declared.event.Event.TheVariants as event
 use Rattle.engine_calls.specs.declared.refusal.Refusal.TheVariants.{LogFull}
-use Rattle.engine_rules.specs.EngineState.{EngineState, IsFit, Outcome, begin_ckpt_record, effect, end, end_ckpt_record}
-use Rattle.engine_rules.specs.EngineState.{extend_record, next_txn, update_record}
+use Rattle.engine_rules.specs.EngineState.{EngineState, IsFit, Outcome, begin_ckpt_record, effect}
+use Rattle.engine_rules.specs.EngineState.{end, end_ckpt_record, extend_record, next_txn}
+use Rattle.engine_rules.specs.EngineState.{update_record}
 use Rattle.engine_rules.specs.Refusal.{refusal}
-use Rattle.engine_rules.proofs.Follows.{add_follows, end_record_has, follows, gather_record_has, none_is_not_some}
-use Rattle.engine_rules.proofs.Follows.{set_follows, undo_has}
-use Rattle.engine_rules.proofs.Gathers.{PassesPages, PassesTxns, TakesPages, TakesTxn, WasDone, ckpt_end_is, gather_case}
-use Rattle.engine_rules.proofs.Gathers.{pages_record, passes_pages, passes_txns, takes_pages, takes_txn, txn_entry}
-use Rattle.engine_rules.proofs.Gathers.{was_done}
-use Rattle.engine_rules.proofs.Refusals.{GatherIsFull, HasRoomFor, ckpt_begin_full, ckpt_end_full, gather_full}
-use Rattle.engine_rules.proofs.Refusals.{active_not_full, begin_full, begin_passes, change_full, change_passes}
-use Rattle.engine_rules.proofs.Refusals.{copy_not_full, ckpt_begin_passes, ckpt_end_passes, gather_passes, read_not_full}
-use Rattle.engine_rules.proofs.Refusals.{back_not_full, extend_full, extend_passes, undo_not_full, write_begin_not_full, write_end_not_full}
-use Rattle.engine_rules.specs.Call.{record_for}
+use Rattle.engine_rules.proofs.Gathers.{PassesPages, PassesTxns, TakesPages, TakesTxn, WasDone}
+use Rattle.engine_rules.proofs.Gathers.{ckpt_end_is, gather_case, pages_record, passes_pages}
+use Rattle.engine_rules.proofs.Gathers.{passes_txns, takes_pages, takes_txn, txn_entry, was_done}
 use Rattle.engine_rules.proofs.Steps.{stays_or_grows}
-use Rattle.engine_rules.proofs.StepsBack.{back_record_has}
+use Rattle.engine_rules.proofs.Follows.{add_follows, made_follows, set_follows}
+use Rattle.engine_rules.proofs.Makes.{Makes, MakesAdd, MakesBegin, MakesBeginChkpt, MakesEndChkpt}
+use Rattle.engine_rules.proofs.Makes.{MakesExtend, MakesPages, MakesSet, MakesTxn, none_is_not_some}
+use Rattle.engine_rules.proofs.Refusals.{GatherIsFull, HasRoomFor, begin_full, change_full}
+use Rattle.engine_rules.proofs.Refusals.{ckpt_begin_full, ckpt_end_full, extend_full, gather_full}
+use Rattle.engine_rules.proofs.Refusals.{never_full}
 
 -- ---- an accepted call
 
@@ -43,51 +42,22 @@ room_now s fit =
     (fit.room (length s.log) (omega arith)) in
     omega arith
 
-grows_within : (s : EngineState) (event : Event) (r : Record) → IsFit s → refusal s event ≡ None
-    → record_for s event ≡ Some r → HasRoomFor s (needs r)
-grows_within s event.Begin r fit none made =
-    subst (λ (q : Record). HasRoomFor s (needs q)) (same_Some _ _ made) (begin_passes s none).room
-grows_within s (event.Set txn page slot number) r fit none made =
-    subst (λ (q : Record). HasRoomFor s (needs q)) (same_Some _ _ made)
-    (change_passes s txn page slot kind.Set none).room
-grows_within s (event.Add txn page slot amount) r fit none made =
-    subst (λ (q : Record). HasRoomFor s (needs q)) (same_Some _ _ made)
-    (change_passes s txn page slot kind.Add none).room
-grows_within s (event.Read page slot) r fit none made = absurd (cc)
-grows_within s event.CopyFull r fit none made = absurd (cc)
-grows_within s (event.CopyInc parent) r fit none made = absurd (cc)
-grows_within s (event.Take copy page) r fit none made = absurd (cc)
-grows_within s (event.Seal copy) r fit none made = absurd (cc)
-grows_within s (event.DropCopy copy) r fit none made = absurd (cc)
-grows_within s (event.Repair copy page) r fit none made = absurd (cc)
-grows_within s (event.Commit txn) r fit none made =
-    subst (λ (q : Record). HasRoomFor s (needs q)) (same_Some _ _ made) (room_now s fit)
-grows_within s (event.Abort txn) r fit none made =
-    subst (λ (q : Record). HasRoomFor s (needs q)) (same_Some _ _ made) (room_now s fit)
-grows_within s (event.UndoStep txn) r fit none made =
-    undo_has (λ (q : Record). HasRoomFor s (needs q)) s txn r made (λ p last. room_now s fit) (λ last. room_now s fit)
-grows_within s (event.Savepoint txn) r fit none made = absurd (cc)
-grows_within s (event.UndoTo txn at) r fit none made =
-    back_record_has (λ (q : Record). HasRoomFor s (needs q)) s txn at r made (λ p last. room_now s fit)
-grows_within s event.Force r fit none made = absurd (cc)
-grows_within s (event.WriteBegin page) r fit none made = absurd (cc)
-grows_within s (event.WriteEnd page) r fit none made = absurd (cc)
-grows_within s event.CkptBegin r fit none made =
-    subst (λ (q : Record). HasRoomFor s (needs q)) (same_Some _ _ made) (ckpt_begin_passes s none).room
-grows_within s event.CkptGather r fit none made =
-    let room = (gather_passes s none).room r made in
-    gather_record_has (λ (q : Record). HasRoomFor s (needs q)) s r none made (λ c pages is finds. room)
-    (λ c t is finds. room)
-grows_within s (event.Extend count) r fit none made =
-    subst (λ (q : Record). HasRoomFor s (needs q)) (same_Some _ _ made) (extend_passes s count none).room
-grows_within s event.CkptEnd r fit none made =
-    end_record_has (λ (q : Record). HasRoomFor s (needs q)) s r none made (λ c is done. (ckpt_end_passes s none).room)
+room_for : (s : EngineState) (event : Event) (r : Record) → IsFit s → Makes s event r → HasRoomFor s (needs r)
+room_for s event r fit (MakesBegin passes) = passes.room
+room_for s event r fit (MakesSet txn page slot number passes fits) = passes.room
+room_for s event r fit (MakesAdd txn page slot amount passes fits) = passes.room
+room_for s event r fit (MakesExtend count grows begins passes) = passes.room
+room_for s event r fit (MakesBeginChkpt ckpt begins passes) = passes.room
+room_for s event r fit (MakesPages c pages ckpt is finds room) = room
+room_for s event r fit (MakesTxn c t ckpt is finds room) = room
+room_for s event r fit (MakesEndChkpt c ckpt is done room) = room
+room_for s event r fit of_an_open_one = room_now s fit
 
-pub room_grows : (s : EngineState) (event : Event) (r : Record) → IsFit s → refusal s event ≡ None
-    → record_for s event ≡ Some r → length (s.log ++ r ∷ []) + owed (s.log ++ r ∷ []) ≤ MAX_RECORDS
-room_grows s event r fit none made =
-    let within = grows_within s event r fit none made in
-    omega (arith, claimed_push s.log r fit.linked (follows s event r fit none made))
+pub room_grows : (s : EngineState) (event : Event) (r : Record) → IsFit s → Makes s event r
+    → length (s.log ++ r ∷ []) + owed (s.log ++ r ∷ []) ≤ MAX_RECORDS
+room_grows s event r fit made =
+    let within = room_for s event r fit made in
+    omega (arith, claimed_push s.log r fit.linked (made_follows s event r fit made))
 
 -- so each part of the log with it has room
 pub room_push : (rs : List Record) (r : Record)
@@ -106,7 +76,7 @@ room_if_accepted s event fit none =
     let after = (effect s event).state in
     elim (stays_or_grows s event (Ok (effect s event).answer) after (none, refl, refl)) [
       | inl stays ↦ let room = room_now s fit in rw stays.log (omega arith)
-      | inr grows ↦ rw grows.log (room_grows s event grows.r fit grows.accepted grows.made)
+      | inr grows ↦ rw grows.log (room_grows s event grows.r fit grows.makes)
     ]
 
 -- ---- a call that is refused since the log is full
@@ -163,21 +133,6 @@ past_if_full s (event.Set txn page slot number) fit full =
 past_if_full s (event.Add txn page slot amount) fit full =
     let parts = change_full s txn page slot kind.Add full in
     update_past s txn page slot (Add amount) fit (add_follows s txn page slot amount parts.0 parts.1) parts.2
-past_if_full s (event.Read page slot) fit full = absurd (read_not_full s page slot full)
-past_if_full s event.CopyFull fit full = absurd (copy_not_full s event.CopyFull tt full)
-past_if_full s (event.CopyInc parent) fit full = absurd (copy_not_full s (event.CopyInc parent) tt full)
-past_if_full s (event.Take copy page) fit full = absurd (copy_not_full s (event.Take copy page) tt full)
-past_if_full s (event.Seal copy) fit full = absurd (copy_not_full s (event.Seal copy) tt full)
-past_if_full s (event.DropCopy copy) fit full = absurd (copy_not_full s (event.DropCopy copy) tt full)
-past_if_full s (event.Repair copy page) fit full = absurd (copy_not_full s (event.Repair copy page) tt full)
-past_if_full s (event.Commit txn) fit full = absurd (active_not_full s txn full)
-past_if_full s (event.Abort txn) fit full = absurd (active_not_full s txn full)
-past_if_full s (event.UndoStep txn) fit full = absurd (undo_not_full s txn full)
-past_if_full s (event.Savepoint txn) fit full = absurd (active_not_full s txn full)
-past_if_full s (event.UndoTo txn at) fit full = absurd (back_not_full s txn at full)
-past_if_full s event.Force fit full = absurd (cc)
-past_if_full s (event.WriteBegin page) fit full = absurd (write_begin_not_full s page full)
-past_if_full s (event.WriteEnd page) fit full = absurd (write_end_not_full s page full)
 past_if_full s event.CkptBegin fit full =
     aside_past s (begin_ckpt_record s) fit refl refl refl (ckpt_begin_full s full).1
 past_if_full s event.CkptGather fit full = gather_past s fit (gather_full s full)
@@ -187,3 +142,4 @@ past_if_full s event.CkptEnd fit full =
     let end = ckpt_end_full s full in
     subst IsPast (sym (ckpt_end_is s end.ckpt end.still_open))
     (aside_past s (end_ckpt_record s end.ckpt) fit refl refl refl end.past)
+past_if_full s event fit full = absurd (never_full s event tt full)

@@ -1,5 +1,6 @@
 -- Laws of steps, over whole runs.
-use Rattle.std.proofs.Common.{◌≡◌, ◌≢◌, refl, ℕ, ◌<◌, ◌≤◌, false, ◌++◌, List, [], ◌∷◌, sym, ap, ◌∙◌, arith, inl, inr}
+use Rattle.std.proofs.Common.{◌≡◌, ◌≢◌, refl, ℕ, ◌<◌, ◌≤◌, false, ◌++◌, List, [], ◌∷◌, sym, ap, ◌∙◌}
+use Rattle.std.proofs.Common.{arith, inl, inr}
 use Rattle.std.specs.Prelude.{Some, None, Result, Ok, Err}
 use Rattle.std.proofs.lemmas.List.{append-nil, append_assoc, length_push}
 use Rattle.std.proofs.Math.Bool.{and-false}
@@ -12,14 +13,15 @@ use Rattle.engine_calls.specs.declared.event.Answer.TheVariants as answer
 use Rattle.engine_calls.specs.declared.event.Event.{Event}
 use Rattle.engine_calls.specs.declared.event.Event.TheVariants as event
 use Rattle.engine_calls.specs.declared.refusal.Refusal.{Refusal}
-use Rattle.engine_calls.specs.declared.refusal.Refusal.TheVariants.{CommitUnsure, LogFault, OutOfMemory, StoreFault}
+use Rattle.engine_calls.specs.declared.refusal.Refusal.TheVariants.{CommitUnsure, LogFault}
+use Rattle.engine_calls.specs.declared.refusal.Refusal.TheVariants.{OutOfMemory, StoreFault}
 use Rattle.engine_rules.specs.EngineState.{EngineState, IsFit, commit_record, end}
 use Rattle.engine_rules.specs.Run.{Run}
 use Rattle.engine_rules.specs.Step.{Fails, Step}
 use Rattle.engine_rules.specs.Refusal.{refusal}
 use Rattle.engine_rules.proofs.Refusals.{commit_not_unsure}
-use Rattle.engine_rules.proofs.Forces.{EndsAtRecord, forces}
-use Rattle.engine_rules.proofs.Steps.{stays_or_grows}
+use Rattle.engine_rules.proofs.Forces.{EndsAtRecord}
+use Rattle.engine_rules.proofs.Steps.{forces, stays_or_grows, step_leaves}
 
 -- ---- the forced end
 
@@ -29,9 +31,7 @@ pub forced_end_from : (old : EngineState) (events : List Event)
 forced_end_from old [] [] new ends is = rw is (omega arith)
 forced_end_from old (event ∷ events) (reply ∷ replies) new ends run =
     let first = forces old event reply run.0 ends run.1 in
-    let step = first.no_less in
-    let rest = forced_end_from run.0 events replies new first.at_record run.2 in
-    omega arith
+    omega (arith, first.1, forced_end_from run.0 events replies new first.0 run.2)
 forced_end_from old [] (reply ∷ replies) new ends run = absurd run
 forced_end_from old (event ∷ events) [] new ends run = absurd run
 
@@ -59,6 +59,17 @@ log_of_run old (event ∷ events) (reply ∷ replies) new run =
     )
 log_of_run old [] (reply ∷ replies) new run = absurd run
 log_of_run old (event ∷ events) [] new run = absurd run
+
+-- ---- the frames
+
+-- no step changes how many there are
+pub frames_of_run : (old : EngineState) (events : List Event) (replies : List (Result Answer Refusal))
+    (new : EngineState) → Run old events replies new → new.frames ≡ old.frames
+frames_of_run old [] [] new is = ap (λ (s : EngineState). s.frames) is
+frames_of_run old (event ∷ events) (reply ∷ replies) new run =
+    frames_of_run run.0 events replies new run.2 ∙ (step_leaves old event reply run.0 run.1).frames
+frames_of_run old [] (reply ∷ replies) new run = absurd run
+frames_of_run old (event ∷ events) [] new run = absurd run
 
 -- ---- a Commit
 
@@ -100,16 +111,9 @@ unsure_commit old txn lsn new (inr both) = unsure_at old txn lsn new both.0 both
 failed_same : (old : EngineState) (event : Event) (why : Refusal) (new : EngineState) → why ≢ LogFault
     → why ≢ StoreFault → ((lsn : ℕ) → why ≢ CommitUnsure lsn) → Fails old event why new → new ≡ old
 failed_same old event OutOfMemory new no_fault no_store sure fails = fails.1
-failed_same old event.Force LogFault new no_fault no_store sure fails = absurd (no_fault refl)
-failed_same old (event.WriteBegin page) LogFault new no_fault no_store sure fails = absurd (no_fault refl)
-failed_same old (event.WriteEnd page) StoreFault new no_fault no_store sure fails = absurd (no_store refl)
-failed_same old event.CkptEnd LogFault new no_fault no_store sure fails = absurd (no_fault refl)
-failed_same old (event.Take copy page) StoreFault new no_fault no_store sure fails = fails
-failed_same old (event.Repair copy page) LogFault new no_fault no_store sure fails = absurd (no_fault refl)
-failed_same old (event.Repair copy page) StoreFault new no_fault no_store sure fails = absurd (no_store refl)
-failed_same old (event.Extend count) StoreFault new no_fault no_store sure fails = fails
-failed_same old event StoreFault new no_fault no_store sure fails = fails.1
-failed_same old (event.Commit txn) (CommitUnsure lsn) new no_fault no_store sure fails = absurd (sure lsn refl)
+failed_same old event LogFault new no_fault no_store sure fails = absurd (no_fault refl)
+failed_same old event StoreFault new no_fault no_store sure fails = absurd (no_store refl)
+failed_same old event (CommitUnsure lsn) new no_fault no_store sure fails = absurd (sure lsn refl)
 failed_same old event why new no_fault no_store sure fails = absurd fails
 
 -- it changes nothing, unless it tells of the device

@@ -1,14 +1,11 @@
 -- The record of an accepted event may stand at the end of the log.
-use Rattle.std.proofs.Common.{◌≡◌, ℕ, ◌^◌, ◌<◌, true, length, refl, subst, arith}
-use Rattle.std.specs.Prelude.{Some, None}
-use Rattle.std.proofs.lemmas.Option.{same_Some}
+use Rattle.std.proofs.Common.{◌≡◌, ℕ, ◌^◌, ◌<◌, true, length, refl, arith}
+use Rattle.std.specs.Prelude.{Some}
 use Rattle.std.proofs.lemmas.List.Elements.{All-weaker}
 use Rattle.page_core.specs.declared.change.Change.{Change}
 use Rattle.page_core.specs.declared.change.Change.TheVariants.{Set, Add}
-use Rattle.page_core.specs.declared.change.ChangeKind.TheVariants as kind
 use Rattle.page_core.specs.Change.{kind_of}
 use Rattle.log_rules.specs.declared.pending_change.PendingChange.{PendingChange}
-use Rattle.log_records.specs.declared.limits.TheConstants.{MAX_RECORDS}
 use Rattle.log_records.specs.declared.record.Record.{Record}
 use Rattle.log_records.specs.declared.record.Record.TheVariants as log
 use Rattle.log_rules.specs.Linked.{number_in}
@@ -16,22 +13,20 @@ use Rattle.log_records.specs.Log.{StandsAt}
 use Rattle.log_records.specs.Record.{IsBefore, IsChange, IsLsn, IsRecord, IsTxn}
 use Rattle.log_rules.specs.Transactions.{is_open, last_lsn, last_of, pending}
 use Rattle.engine_calls.specs.declared.event.Event.{Event}
-use Rattle.engine_calls.specs.declared.event.Event.TheVariants as event
-use Rattle.engine_rules.specs.EngineState.{EngineState, IsFit, abort_record, commit_record, comp_record, end, end_record}
-use Rattle.engine_rules.specs.EngineState.{log_of, next_txn, update_record}
-use Rattle.engine_rules.specs.EngineState.{volume_pages}
+use Rattle.engine_rules.specs.EngineState.{EngineState, IsFit, abort_record, commit_record}
+use Rattle.engine_rules.specs.EngineState.{comp_record, end, end_record, log_of, next_txn}
+use Rattle.engine_rules.specs.EngineState.{update_record, volume_pages}
 use Rattle.engine_calls.specs.EventFits.{EventFits}
-use Rattle.engine_rules.specs.Refusal.{refusal}
-use Rattle.engine_rules.proofs.Follows.{end_record_has, gather_record_has, undo_has}
-use Rattle.log_rules.proofs.Public.{StandsBefore, all_stand, last_lsn_is_before, last_pending, length_begun}
-use Rattle.log_rules.proofs.Public.{lsn_is_lsn, open_is_txn, undo_fits, undo_has_no_before}
+use Rattle.log_rules.proofs.Public.{StandsBefore, all_stand, last_lsn_is_before, last_pending}
+use Rattle.log_rules.proofs.Public.{length_begun, lsn_is_lsn, open_is_txn, undo_fits}
+use Rattle.log_rules.proofs.Public.{undo_has_no_before}
 use Rattle.engine_rules.proofs.GatherSteps.{end_ckpt_stands, pages_stand, txn_stand}
 use Rattle.engine_rules.proofs.Numbers.{number_fits}
-use Rattle.engine_rules.proofs.Refusals.{ChangePasses, active_passes, change_passes, ckpt_end_passes, gather_passes}
-use Rattle.engine_rules.proofs.Refusals.{back_passes, extend_passes, undo_passes}
-use Rattle.engine_rules.specs.Call.{record_for}
-use Rattle.engine_rules.proofs.StepsBack.{back_record_has}
 use Rattle.log_records.proofs.Public.{page_count-is_count}
+use Rattle.engine_rules.proofs.Refusals.{ChangePasses}
+use Rattle.engine_rules.proofs.Makes.{Makes, MakesAbort, MakesAdd, MakesBegin, MakesBeginChkpt}
+use Rattle.engine_rules.proofs.Makes.{MakesCommit, MakesComp, MakesEnd, MakesEndChkpt, MakesExtend}
+use Rattle.engine_rules.proofs.Makes.{MakesPages, MakesSet, MakesTxn}
 
 abbrev pub StandsAtEnd : EngineState → Record → Type 0
 StandsAtEnd s r = StandsAt (volume_pages s) (end s) r
@@ -129,52 +124,25 @@ comp_stands s txn p fit still_open last =
 
 -- ---- the record of an accepted event
 
-pub stands : (s : EngineState) (event : Event) (r : Record) → IsFit s → EventFits event
-    → refusal s event ≡ None → record_for s event ≡ Some r → StandsAtEnd s r
-stands s event.Begin r fit fits none made = subst (StandsAtEnd s) (same_Some _ _ made) (begin_stands s fit)
-stands s (event.Set txn page slot number) r fit fits none made =
-    subst (StandsAtEnd s) (same_Some _ _ made)
-    (update_stands s txn page slot (Set (number_in s.log page slot) number) fit
-    (change_passes s txn page slot kind.Set none) (set_fits s page slot number fit fits))
-stands s (event.Add txn page slot amount) r fit fits none made =
-    subst (StandsAtEnd s) (same_Some _ _ made)
-    (update_stands s txn page slot (Add amount) fit (change_passes s txn page slot kind.Add none) fits)
-stands s (event.Read page slot) r fit fits none made = absurd (cc)
-stands s event.CopyFull r fit fits none made = absurd (cc)
-stands s (event.CopyInc parent) r fit fits none made = absurd (cc)
-stands s (event.Take copy page) r fit fits none made = absurd (cc)
-stands s (event.Seal copy) r fit fits none made = absurd (cc)
-stands s (event.DropCopy copy) r fit fits none made = absurd (cc)
-stands s (event.Repair copy page) r fit fits none made = absurd (cc)
-stands s (event.Commit txn) r fit fits none made =
-    subst (StandsAtEnd s) (same_Some _ _ made) (commit_stands s txn fit (active_passes s txn none).still_open)
-stands s (event.Abort txn) r fit fits none made =
-    subst (StandsAtEnd s) (same_Some _ _ made) (abort_stands s txn fit (active_passes s txn none).still_open)
-stands s (event.UndoStep txn) r fit fits none made =
-    let still_open = (undo_passes s txn none).still_open in
-    undo_has (StandsAtEnd s) s txn r made (λ p last. comp_stands s txn p fit still_open last)
-    (λ no_more. end_stands s txn fit still_open)
-stands s (event.Savepoint txn) r fit fits none made = absurd (cc)
-stands s (event.UndoTo txn at) r fit fits none made =
-    let still_open = (back_passes s txn at none).still_open in
-    back_record_has (StandsAtEnd s) s txn at r made (λ p last. comp_stands s txn p fit still_open last)
-stands s event.Force r fit fits none made = absurd (cc)
-stands s (event.WriteBegin page) r fit fits none made = absurd (cc)
-stands s (event.WriteEnd page) r fit fits none made = absurd (cc)
-stands s event.CkptBegin r fit fits none made =
-    subst (StandsAtEnd s) (same_Some _ _ made) (record { lsn = refl; valid = end_is_lsn s fit; within = tt })
-stands s event.CkptGather r fit fits none made =
-    let room = (gather_passes s none).room r made in
-    let few : length s.log < MAX_RECORDS = omega arith in
-    gather_record_has (StandsAtEnd s) s r none made (λ c pages is finds. pages_stand s c pages fit is finds few)
-    (λ c t is finds. txn_stand s c t fit is finds few)
-stands s (event.Extend count) r fit fits none made =
-    let passes = extend_passes s count none in
-    subst (StandsAtEnd s) (same_Some _ _ made) (record {
-      lsn = refl;
-      valid = (end_is_lsn s fit, record { least = let more = passes.more in omega arith; most = passes.few });
-      within = tt;
-    })
-stands s event.CkptEnd r fit fits none made =
-    let room = (ckpt_end_passes s none).room in
-    end_record_has (StandsAtEnd s) s r none made (λ c is done. end_ckpt_stands s c fit is done (omega arith))
+pub stands : (s : EngineState) (event : Event) (r : Record) → IsFit s → EventFits event → Makes s event r
+    → StandsAtEnd s r
+stands s event r fit fits (MakesBegin passes) = begin_stands s fit
+stands s event r fit fits (MakesSet txn page slot number passes number_fits) =
+    update_stands s txn page slot (Set (number_in s.log page slot) number) fit passes
+    (set_fits s page slot number fit (number_fits fits))
+stands s event r fit fits (MakesAdd txn page slot amount passes amount_fits) =
+    update_stands s txn page slot (Add amount) fit passes (amount_fits fits)
+stands s event r fit fits (MakesCommit txn active) = commit_stands s txn fit active.still_open
+stands s event r fit fits (MakesAbort txn active) = abort_stands s txn fit active.still_open
+stands s event r fit fits (MakesComp txn p still_open last) = comp_stands s txn p fit still_open last
+stands s event r fit fits (MakesEnd txn rolls none) = end_stands s txn fit rolls.still_open
+stands s event r fit fits (MakesExtend count grows begins passes) = record {
+  lsn = refl;
+  valid = (end_is_lsn s fit, record { least = let more = passes.more in omega arith; most = passes.few });
+  within = tt;
+}
+stands s event r fit fits (MakesBeginChkpt ckpt begins passes) =
+    record { lsn = refl; valid = end_is_lsn s fit; within = tt }
+stands s event r fit fits (MakesPages c pages ckpt is finds room) = pages_stand s c pages fit is finds (omega arith)
+stands s event r fit fits (MakesTxn c t ckpt is finds room) = txn_stand s c t fit is finds (omega arith)
+stands s event r fit fits (MakesEndChkpt c ckpt is done room) = end_ckpt_stands s c fit is done (omega arith)

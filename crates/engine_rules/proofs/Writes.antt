@@ -1,242 +1,34 @@
--- What a step does to the stored pages, and to the images that are being written.
-use Rattle.std.proofs.Common.{◌≡◌, ℕ, ◌*◌, ◌<◌, ◌≤◌, ◌++◌, List, length, get_or, set, take}
-use Rattle.std.proofs.Common.{◌⊎◌, refl, sym, ap, subst, ◌∙◌, arith, inl, inr}
-use Rattle.std.specs.Prelude.{Option, Some, None, IfSome, Result, Ok, Err}
-use Rattle.std.specs.List.{All}
-use Rattle.std.proofs.lemmas.Bool.{cases_eq, cases_lt}
-use Rattle.std.proofs.lemmas.List.{get_or-set_other, get_or-set_same, get_or_past, length-set, take_all}
-use Rattle.std.proofs.lemmas.List.Elements.{All-set, All-weaker}
+-- A write of a page begins, or a page is stored: an engine that was fit stays so.
+use Rattle.std.proofs.Common.{◌≡◌, ℕ, ◌*◌, ◌<◌, ◌≤◌, Bool, true, false, cond, List, [], ◌∷◌, length}
+use Rattle.std.proofs.Common.{filter, get_or, set, take, ◌⊎◌, refl, sym, ap, subst, ◌∙◌, arith, inl}
+use Rattle.std.proofs.Common.{inr, true≢false}
+use Rattle.std.specs.Prelude.{Option, Some, None, IfSome, Result, is_none, nat_lt}
+use Rattle.std.proofs.lemmas.Bool.{cases_eq, cases_lt, le-ltb, ltb-false}
+use Rattle.std.proofs.lemmas.List.{get_or-set_other, get_or-set_same, get_or_past, length-set}
+use Rattle.std.proofs.lemmas.List.{take_all}
+use Rattle.std.proofs.lemmas.List.Elements.{All-set}
 use Rattle.page_core.specs.declared.page.Page.{Page}
-use Rattle.log_records.specs.Coverage.{AreStored, IsWriting}
-use Rattle.log_records.proofs.Public.{past_is_older, past_now, stored_begun, stored_ended, stored_failed, stored_later}
-use Rattle.log_rules.specs.declared.pending_change.PendingChange.{PendingChange}
+use Rattle.page_core.specs.Page.{formatted}
+use Rattle.log_records.specs.Coverage.{AreStored, IsWriting, changes_on, rec_lsn}
+use Rattle.log_records.specs.Least.{least}
+use Rattle.log_records.proofs.Public.{past_is_older, past_now, stored_begun, stored_ended}
+use Rattle.log_records.proofs.Public.{stored_failed, lsn-image}
 use Rattle.log_records.specs.declared.record.Record.{Record}
 use Rattle.log_records.specs.declared.record.Record.TheVariants.{Begin}
 use Rattle.log_records.specs.Image.{image}
-use Rattle.log_rules.specs.Transactions.{last_of, pending}
 use Rattle.log_store.specs.WrittenLog.{end_up_to}
 use Rattle.buffer_pool.proofs.Public.{stored_half, stored_repaired}
-use Rattle.log_records.proofs.Public.{lsn-image}
+use Rattle.buffer_pool.specs.Pool.{is_clean}
+use Rattle.copy_coverage.specs.Copied.{AreCopied}
+use Rattle.copy_coverage.proofs.Public.{copied_stored}
 use Rattle.engine_calls.specs.declared.event.Answer.{Answer}
 use Rattle.engine_calls.specs.declared.event.Event.{Event}
-use Rattle.engine_calls.specs.declared.event.Event.TheVariants as event
 use Rattle.engine_calls.specs.declared.refusal.Refusal.{Refusal}
-use Rattle.engine_calls.specs.declared.refusal.Refusal.TheVariants.{CommitUnsure, LogFault, OutOfMemory, StoreFault}
-use Rattle.engine_rules.specs.EngineState.{AreCounted, AreStable, EngineState, IsFit, effect, ended_write, image_of}
-use Rattle.engine_rules.specs.EngineState.{forced_through, log_of, page_now, with_stored}
-use Rattle.engine_rules.specs.EngineState.{volume_pages}
-use Rattle.engine_rules.specs.Refusal.{refusal}
-use Rattle.engine_rules.specs.Step.{Fails, Step}
-use Rattle.engine_rules.proofs.Gathers.{ckpt_end_has, closed_part, gather_has}
-use Rattle.engine_rules.proofs.NoCounts.{IsNoGrowth}
-use Rattle.engine_rules.proofs.Refusals.{WriteBegins, WriteEnds, repair_passes, write_begin_passes, write_end_passes}
-use Rattle.engine_rules.proofs.Steps.{stored_or_not}
-use Rattle.engine_rules.proofs.StepsBack.{back_has}
-
--- ---- the five things that a step may do to the pages of a volume that does not grow
-
--- it leaves them
-pub record LeavesPages (old new : EngineState) : Type 0 where
-  pub stored : new.stored ≡ old.stored
-  pub written : new.written ≡ old.written
-  pub writing : new.writing ≡ old.writing
-
--- it begins a write, with the page as it is now
-pub record BeginsWrite (old : EngineState) (page : ℕ) (new : EngineState) : Type 0 where
-  pub begins : WriteBegins old page
-  pub log : new.log ≡ old.log
-  pub stored : new.stored ≡ old.stored
-  pub written : new.written ≡ old.written
-  pub writing : new.writing ≡ set old.writing page (Some (page_now old page))
-  pub forced : end_up_to (log_of old) (page_now old page).lsn ≤ new.forced_end
-
--- it stores the image, and ends the write
-pub record EndsWrite (old : EngineState) (page : ℕ) (new : EngineState) : Type 0 where
-  pub ends : WriteEnds old page
-  pub log : new.log ≡ old.log
-  pub stored : new.stored ≡ set old.stored page ends.image
-  pub written : new.written ≡ set old.written page ends.image.lsn
-  pub writing : new.writing ≡ set old.writing page None
-
--- it stores the image, and the write goes on
-pub record RepeatsWrite (old : EngineState) (page : ℕ) (new : EngineState) : Type 0 where
-  pub ends : WriteEnds old page
-  pub log : new.log ≡ old.log
-  pub stored : new.stored ≡ set old.stored page ends.image
-  pub written : new.written ≡ old.written
-  pub writing : new.writing ≡ old.writing
-
--- it stores a page as it is now, while no write of it is in progress; that may count as its last write
-pub record RepairsPage (old : EngineState) (page : ℕ) (new : EngineState) : Type 0 where
-  pub within : page < volume_pages old
-  pub idle : image_of old page ≡ None
-  pub log : new.log ≡ old.log
-  pub stored : new.stored ≡ set old.stored page (page_now old page)
-  pub written : (new.written ≡ set old.written page (page_now old page).lsn) ⊎ (new.written ≡ old.written)
-  pub writing : new.writing ≡ old.writing
-  pub forced : end_up_to (log_of old) (page_now old page).lsn ≤ new.forced_end
-
-pub data PageStep (old new : EngineState) : Type 0 where
-  Leaves : LeavesPages old new → PageStep old new
-  Begins : (page : ℕ) → BeginsWrite old page new → PageStep old new
-  Ends : (page : ℕ) → EndsWrite old page new → PageStep old new
-  Repeats : (page : ℕ) → RepeatsWrite old page new → PageStep old new
-  Repairs : (page : ℕ) → RepairsPage old page new → PageStep old new
-
--- ---- each step does one of them
-
-leaves : (old new state : EngineState) → new ≡ state → state.stored ≡ old.stored → state.written ≡ old.written
-    → state.writing ≡ old.writing → PageStep old new
-leaves old new state is stored written writing = Leaves (record {
-  stored = ap (λ (s : EngineState). s.stored) is ∙ stored;
-  written = ap (λ (s : EngineState). s.written) is ∙ written;
-  writing = ap (λ (s : EngineState). s.writing) is ∙ writing;
-})
-
-undo_leaves : (old : EngineState) (txn : ℕ) (new : EngineState) (o : Option PendingChange)
-    → last_of (pending old.log txn) ≡ o → new ≡ (effect old (event.UndoStep txn)).state → PageStep old new
-undo_leaves old txn new None o is = leaves old new _ (rw o at is) refl refl refl
-undo_leaves old txn new (Some p) o is = leaves old new _ (rw o at is) refl refl refl
-
-begun : (old : EngineState) (page : ℕ) (new : EngineState) → refusal old (event.WriteBegin page) ≡ None
-    → new ≡ (effect old (event.WriteBegin page)).state → PageStep old new
-begun old page new none is = Begins page (record {
-  begins = write_begin_passes old page none;
-  log = ap (λ (s : EngineState). s.log) is;
-  stored = ap (λ (s : EngineState). s.stored) is;
-  written = ap (λ (s : EngineState). s.written) is;
-  writing = ap (λ (s : EngineState). s.writing) is;
-  forced = let forced_is = ap (λ (s : EngineState). s.forced_end) is in omega arith;
-})
-
-ended : (old : EngineState) (page : ℕ) (new : EngineState) → refusal old (event.WriteEnd page) ≡ None
-    → new ≡ (effect old (event.WriteEnd page)).state → PageStep old new
-ended old page new none is =
-    let ends = write_end_passes old page none in
-    let done : new ≡ ended_write old page ends.image = rw ends.there at is in
-    Ends page (record {
-      ends = ends;
-      log = ap (λ (s : EngineState). s.log) done;
-      stored = ap (λ (s : EngineState). s.stored) done;
-      written = ap (λ (s : EngineState). s.written) done;
-      writing = ap (λ (s : EngineState). s.writing) done;
-    })
-
-repaired : (old : EngineState) (copy page : ℕ) (new : EngineState) → refusal old (event.Repair copy page) ≡ None
-    → new ≡ (effect old (event.Repair copy page)).state → PageStep old new
-repaired old copy page new none is =
-    let passes = repair_passes old copy page none in
-    Repairs page (record {
-      within = passes.within;
-      idle = passes.idle;
-      log = ap (λ (s : EngineState). s.log) is;
-      stored = ap (λ (s : EngineState). s.stored) is;
-      written = inl (ap (λ (s : EngineState). s.written) is);
-      writing = ap (λ (s : EngineState). s.writing) is;
-      forced = let forced_is = ap (λ (s : EngineState). s.forced_end) is in omega arith;
-    })
-
-half_repaired : (old : EngineState) (copy page : ℕ) (new : EngineState) → refusal old (event.Repair copy page) ≡ None
-    → new ≡ with_stored (forced_through old (page_now old page).lsn) page (page_now old page) → PageStep old new
-half_repaired old copy page new none is =
-    let passes = repair_passes old copy page none in
-    Repairs page (record {
-      within = passes.within;
-      idle = passes.idle;
-      log = ap (λ (s : EngineState). s.log) is;
-      stored = ap (λ (s : EngineState). s.stored) is;
-      written = inr (ap (λ (s : EngineState). s.written) is);
-      writing = ap (λ (s : EngineState). s.writing) is;
-      forced = let forced_is = ap (λ (s : EngineState). s.forced_end) is in omega arith;
-    })
-
-answered : (old : EngineState) (event : Event) (new : EngineState) → IsNoGrowth event → refusal old event ≡ None
-    → new ≡ (effect old event).state → PageStep old new
-answered old event.Begin new stays none is = leaves old new _ is refl refl refl
-answered old (event.Set txn page slot number) new stays none is = leaves old new _ is refl refl refl
-answered old (event.Add txn page slot amount) new stays none is = leaves old new _ is refl refl refl
-answered old (event.Read page slot) new stays none is = leaves old new _ is refl refl refl
-answered old event.CopyFull new stays none is = leaves old new _ is refl refl refl
-answered old (event.CopyInc parent) new stays none is = leaves old new _ is refl refl refl
-answered old (event.Take copy page) new stays none is = leaves old new _ is refl refl refl
-answered old (event.Seal copy) new stays none is = leaves old new _ is refl refl refl
-answered old (event.DropCopy copy) new stays none is = leaves old new _ is refl refl refl
-answered old (event.Repair copy page) new stays none is = repaired old copy page new none is
-answered old (event.Commit txn) new stays none is = leaves old new _ is refl refl refl
-answered old (event.Abort txn) new stays none is = leaves old new _ is refl refl refl
-answered old (event.UndoStep txn) new stays none is = undo_leaves old txn new _ refl is
-answered old (event.Savepoint txn) new stays none is = leaves old new _ is refl refl refl
-answered old (event.UndoTo txn at) new stays none is =
-    leaves old new _ is (back_has (λ s. s.stored ≡ old.stored) old txn at refl (λ p. refl))
-    (back_has (λ s. s.written ≡ old.written) old txn at refl (λ p. refl))
-    (back_has (λ s. s.writing ≡ old.writing) old txn at refl (λ p. refl))
-answered old event.Force new stays none is = leaves old new _ is refl refl refl
-answered old (event.WriteBegin page) new stays none is = begun old page new none is
-answered old (event.WriteEnd page) new stays none is = ended old page new none is
-answered old event.CkptBegin new stays none is = leaves old new _ is refl refl refl
-answered old event.CkptGather new stays none is =
-    leaves old new _ is (gather_has (λ s. s.stored ≡ old.stored) old refl (λ left. refl) (λ r left. refl))
-    (gather_has (λ s. s.written ≡ old.written) old refl (λ left. refl) (λ r left. refl))
-    (gather_has (λ s. s.writing ≡ old.writing) old refl (λ left. refl) (λ r left. refl))
-answered old (event.Extend count) new stays none is = absurd stays
-answered old event.CkptEnd new stays none is =
-    leaves old new _ is (ckpt_end_has (λ s. s.stored ≡ old.stored) old refl (λ c. refl))
-    (ckpt_end_has (λ s. s.written ≡ old.written) old refl (λ c. refl))
-    (ckpt_end_has (λ s. s.writing ≡ old.writing) old refl (λ c. refl))
-
-failed : (old : EngineState) (event : Event) (why : Refusal) (new : EngineState) → IsNoGrowth event → refusal old event ≡ None
-    → Fails old event why new → PageStep old new
-failed old event OutOfMemory new stays none fails = leaves old new old fails.1 refl refl refl
-failed old event.Force LogFault new stays none fails = leaves old new _ fails.reached.2 refl refl refl
-failed old (event.Commit txn) (CommitUnsure lsn) new stays none fails = leaves old new _ fails.1.reached.2 refl refl refl
-failed old (event.WriteBegin page) LogFault new stays none fails = leaves old new _ fails.reached.2 refl refl refl
-failed old (event.WriteEnd page) StoreFault new stays none fails =
-    let ends = write_end_passes old page none in
-    elim (stored_or_not old page new fails) [
-      | inl same ↦ leaves old new old same refl refl refl
-      | inr stored ↦
-          let alike : stored.0 ≡ ends.image = let a = stored.1 in let b = ends.there in cc in
-          Repeats page (record {
-            ends = ends;
-            log = ap (λ (s : EngineState). s.log) stored.2;
-            stored = ap (λ (s : EngineState). s.stored) stored.2 ∙ ap (set old.stored page) alike;
-            written = ap (λ (s : EngineState). s.written) stored.2;
-            writing = ap (λ (s : EngineState). s.writing) stored.2;
-          })
-    ]
-failed old event.CkptEnd LogFault new stays none fails =
-    leaves old new _ (closed_part old new fails).2.reached.2 refl refl refl
-failed old (event.Take copy page) StoreFault new stays none fails = leaves old new old fails refl refl refl
-failed old (event.Repair copy page) LogFault new stays none fails = leaves old new _ fails.reached.2 refl refl refl
-failed old (event.Repair copy page) StoreFault new stays none fails = elim fails [
-  | inl kept ↦ leaves old new _ kept refl refl refl
-  | inr stored ↦ half_repaired old copy page new none stored
-]
-failed old (event.Extend count) StoreFault new stays none fails = absurd stays
-failed old event StoreFault new stays none fails = leaves old new old fails.1 refl refl refl
-failed old event why new stays none fails = absurd fails
-
-pub page_step : (old : EngineState) (event : Event) (reply : Result Answer Refusal) (new : EngineState)
-    → IsNoGrowth event → Step old event reply new → PageStep old new
-page_step old event (Ok answer) new stays step = answered old event new stays step.0 step.2
-page_step old event (Err why) new stays (inl both) = leaves old new old both.1 refl refl refl
-page_step old event (Err why) new stays (inr both) = failed old event why new stays both.0 both.1
-
--- ---- what holds of the pages after it
-
--- of a state whose log may have grown, and is forced as far as before
-pub record PagesFit (s : EngineState) : Type 0 where
-  pub counted : AreCounted s
-  pub stored : AreStored s.log s.stored s.written s.writing
-  pub stable : AreStable s
-
--- the rest of a step: the log grows, the forced end does not fall, the page count stays
-pub record GoesOn (old new : EngineState) : Type 0 where
-  pub pages : new.pages ≡ old.pages
-  pub count : volume_pages new ≡ volume_pages old
-  pub rest : List Record
-  pub log : new.log ≡ old.log ++ rest
-  pub no_less : old.forced_end ≤ new.forced_end
+use Rattle.engine_rules.specs.EngineState.{AreCounted, AreHeld, AreStable, EngineState, IsFit}
+use Rattle.engine_rules.specs.EngineState.{begun_write, image_of, log_of, page_now, volume_pages}
+use Rattle.engine_rules.proofs.Beside.{HasMaster, gathered_set, master_set}
+use Rattle.engine_rules.proofs.Gathers.{AreGathered}
+use Rattle.engine_rules.proofs.Moves.{Ends, GoesOn, Repairs, RepairsHalf, Storing}
 
 -- the LSN of an image is below the end of the log up to it
 image_is_stable : (s : EngineState) (p : ℕ) → IsFit s
@@ -264,178 +56,192 @@ image_set writing n p o P here rest = elim (cases_eq p n) [
   | inr other ↦ rw (get_or-set_other writing n p o None other) rest
 ]
 
--- images whose LSNs are below the forced end, which does not fall
-images_later : (old new : EngineState) → IsFit old → GoesOn old new → (p : ℕ)
-    → IfSome (image_of old p) (λ image. image.lsn < new.forced_end)
-images_later old new fit goes p = by_image (image_of old p) (fit.stable.images p)
-  where
-    by_image : (o : Option Page) → IfSome o (λ image. image.lsn < old.forced_end)
-        → IfSome o (λ image. image.lsn < new.forced_end)
-    by_image None is = tt
-    by_image (Some image) is = let no_less = goes.no_less in omega arith
-
-pages_later : (old new : EngineState) → IsFit old → GoesOn old new → All (λ page. page.lsn < new.forced_end) old.stored
-pages_later old new fit goes =
-    let no_less = goes.no_less in
-    All-weaker (λ page. page.lsn < old.forced_end) (λ page. page.lsn < new.forced_end)
-    (λ page low. omega arith) old.stored fit.stable.pages
-
--- the image of a write in progress is below it too
-image_later : (old new : EngineState) (page : ℕ) → IsFit old → GoesOn old new → (ends : WriteEnds old page)
-    → ends.image.lsn < new.forced_end
-image_later old new page fit goes ends =
-    subst (λ (o : Option Page). IfSome o (λ image. image.lsn < new.forced_end)) ends.there
-    (images_later old new fit goes page)
-
-left_fit : (old new : EngineState) → IsFit old → GoesOn old new → LeavesPages old new → PagesFit new
-left_fit old new fit goes left =
-    let counted = fit.counted in
-    record {
-      counted = record {
-        stored = omega (arith, ap length left.stored, counted.stored, goes.count);
-        written = ap length left.written ∙ counted.written ∙ sym goes.count;
-        writing = ap length left.writing ∙ counted.writing ∙ sym goes.count;
-      };
-      stored = rw (goes.log, left.stored, left.written, left.writing)
-          (stored_later old.log goes.rest old.stored old.written old.writing fit.stored);
-      stable = record {
-        pages = rw left.stored (pages_later old new fit goes);
-        images = λ p. rw left.writing (images_later old new fit goes p);
-      };
-    }
-
-begun_fit : (old new : EngineState) (page : ℕ) → IsFit old → GoesOn old new → BeginsWrite old page new → PagesFit new
-begun_fit old new page fit goes begins =
-    let counted = fit.counted in
-    let now = page_now old page in
-    let within = begins.begins.within in
-    let there : page < length old.stored = let count = counted.stored in omega arith in
-    let room : page < length old.writing = let count = counted.writing in omega arith in
-    record {
-      counted = record {
-        stored = omega (arith, ap length begins.stored, counted.stored, goes.count);
-        written = ap length begins.written ∙ counted.written ∙ sym goes.count;
-        writing = ap length begins.writing ∙ length-set old.writing page (Some now) ∙ counted.writing ∙ sym goes.count;
-      };
-      stored = rw (begins.log, begins.stored, begins.written, begins.writing)
-          (stored_begun old.log old.stored old.written old.writing page now fit.stored room (λ d. record {
-            past = past_now old.log page;
-            newer = past_is_older (log_of old) page (get_or old.stored page d) fit.valid
-                (fit.stored.pages page d there).past;
-          }));
-      stable = record {
-        pages = rw begins.stored (pages_later old new fit goes);
-        images = λ p. rw begins.writing
-            (image_set old.writing page p (Some now) (λ image. image.lsn < new.forced_end)
-            (let stable = image_is_stable old page fit in let forced = begins.forced in omega arith)
-            (images_later old new fit goes p));
-      };
-    }
-
-ended_fit : (old new : EngineState) (page : ℕ) → IsFit old → GoesOn old new → EndsWrite old page new → PagesFit new
-ended_fit old new page fit goes ends =
-    let counted = fit.counted in
-    let image = ends.ends.image in
-    let within = ends.ends.within in
-    let there : page < length old.stored = let count = counted.stored in omega arith in
-    let known : page < length old.written = let count = counted.written in omega arith in
-    let room : page < length old.writing = let count = counted.writing in omega arith in
-    record {
-      counted = record {
-        stored = omega (arith, ap length ends.stored, length-set old.stored page image, counted.stored, goes.count);
-        written = ap length ends.written ∙ length-set old.written page image.lsn ∙ counted.written ∙ sym goes.count;
-        writing = ap length ends.writing ∙ length-set old.writing page None ∙ counted.writing ∙ sym goes.count;
-      };
-      stored = rw (ends.log, ends.stored, ends.written, ends.writing)
-          (stored_ended old.log old.stored old.written old.writing page image fit.stored there known
-          room ends.ends.there);
-      stable = record {
-        pages = rw ends.stored
-            (All-set (λ page. page.lsn < new.forced_end) old.stored page image
-            (image_later old new page fit goes ends.ends) (pages_later old new fit goes));
-        images = λ p. rw ends.writing
-            (image_set old.writing page p None (λ image. image.lsn < new.forced_end) tt
-            (images_later old new fit goes p));
-      };
-    }
-
-repeated_fit : (old new : EngineState) (page : ℕ) → IsFit old → GoesOn old new → RepeatsWrite old page new
-    → PagesFit new
-repeated_fit old new page fit goes repeats =
-    let counted = fit.counted in
-    let image = repeats.ends.image in
-    let within = repeats.ends.within in
-    let there : page < length old.stored = let count = counted.stored in omega arith in
-    record {
-      counted = record {
-        stored = omega (arith, ap length repeats.stored, length-set old.stored page image, counted.stored, goes.count);
-        written = ap length repeats.written ∙ counted.written ∙ sym goes.count;
-        writing = ap length repeats.writing ∙ counted.writing ∙ sym goes.count;
-      };
-      stored = rw (repeats.log, repeats.stored, repeats.written, repeats.writing)
-          (stored_failed old.log old.stored old.written old.writing page image fit.stored there repeats.ends.there);
-      stable = record {
-        pages = rw repeats.stored
-            (All-set (λ page. page.lsn < new.forced_end) old.stored page image
-            (image_later old new page fit goes repeats.ends) (pages_later old new fit goes));
-        images = λ p. rw repeats.writing (images_later old new fit goes p);
-      };
-    }
-
 -- the page as it is now is newer than the stored one
-pub repairs_newer : (s : EngineState) (n : ℕ) (d : Page) → IsFit s → n < length s.stored
+now_is_newer : (s : EngineState) (n : ℕ) (d : Page) → IsFit s → n < length s.stored
     → IsWriting s.log n (get_or s.stored n d) (page_now s n)
-repairs_newer s n d fit there = record {
+now_is_newer s n d fit there = record {
   past = past_now s.log n;
   newer = past_is_older (log_of s) n (get_or s.stored n d) fit.valid (fit.stored.pages n d there).past;
 }
 
-repaired_fit : (old new : EngineState) (page : ℕ) → IsFit old → GoesOn old new → RepairsPage old page new → PagesFit new
-repaired_fit old new page fit goes repairs =
-    let counted = fit.counted in
-    let now = page_now old page in
-    let within = repairs.within in
-    let there : page < length old.stored = let count = counted.stored in omega arith in
-    let known : page < length old.written = let count = counted.written in omega arith in
-    let below : now.lsn < new.forced_end =
-    let stable = image_is_stable old page fit in let forced = repairs.forced in omega arith in
-    let past = past_now old.log page in
-    let stored_count : length new.stored ≡ volume_pages new =
-    omega (arith, ap length repairs.stored, length-set old.stored page now, counted.stored, goes.count) in
-    let writing_count = ap length repairs.writing ∙ counted.writing ∙ sym goes.count in
-    let stable : AreStable new = record {
-      pages = rw repairs.stored
-          (All-set (λ page. page.lsn < new.forced_end) old.stored page now below (pages_later old new fit goes));
-      images = λ p. rw repairs.writing (images_later old new fit goes p);
-    } in
-    elim repairs.written [
-      | inl written ↦ record {
-        counted = record {
-          stored = stored_count;
-          written = ap length written ∙ length-set old.written page now.lsn ∙ counted.written ∙ sym goes.count;
-          writing = writing_count;
-        };
-        stored = rw (repairs.log, repairs.stored, written, repairs.writing)
-            (stored_repaired old.log old.stored old.written old.writing page now fit.stored there known
-            repairs.idle past);
-        stable = stable;
-      }
-      | inr written ↦ record {
-        counted = record {
-          stored = stored_count;
-          written = ap length written ∙ counted.written ∙ sym goes.count;
-          writing = writing_count;
-        };
-        stored = rw (repairs.log, repairs.stored, written, repairs.writing)
-            (stored_half old.log old.stored old.written old.writing page now fit.stored there repairs.idle past
-            (λ d. (repairs_newer old page d fit there).newer));
-        stable = stable;
-      }
-    ]
+-- ---- a write begins
 
-pub pages_fit : (old new : EngineState) → IsFit old → GoesOn old new → PageStep old new → PagesFit new
-pages_fit old new fit goes (Leaves left) = left_fit old new fit goes left
-pages_fit old new fit goes (Begins page begins) = begun_fit old new page fit goes begins
-pages_fit old new fit goes (Ends page ends) = ended_fit old new page fit goes ends
-pages_fit old new fit goes (Repeats page repeats) = repeated_fit old new page fit goes repeats
-pages_fit old new fit goes (Repairs page repairs) = repaired_fit old new page fit goes repairs
+pub begun_fit : (s : EngineState) (page : ℕ) → IsFit s → page < volume_pages s
+    → end_up_to (log_of s) (page_now s page).lsn ≤ s.forced_end → IsFit (begun_write s page (page_now s page))
+begun_fit s page fit within forced =
+    let now = page_now s page in
+    let after = begun_write s page now in
+    let there : page < length s.stored = let count = fit.counted.stored in omega arith in
+    let room : page < length s.writing = let count = fit.counted.writing in omega arith in
+    let counted : AreCounted after = record {
+      stored = fit.counted.stored;
+      written = fit.counted.written;
+      writing = length-set s.writing page (Some now) ∙ fit.counted.writing;
+    } in
+    let stored : AreStored s.log s.stored s.written (set s.writing page (Some now)) =
+    stored_begun s.log s.stored s.written s.writing page now fit.stored room (λ d. now_is_newer s page d fit there) in
+    let stable : AreStable after = record {
+      pages = fit.stable.pages;
+      images = λ p. image_set s.writing page p (Some now) (λ image. image.lsn < s.forced_end)
+          (let stable = image_is_stable s page fit in omega arith) (fit.stable.images p);
+    } in
+    assumption (counted, stored, stable, fit)
+
+-- ---- a page is stored
+
+-- none is above an LSN if none is above a lesser one
+none_above : (lsns : List ℕ) (low high : ℕ) → low ≤ high → least (filter (nat_lt low) lsns) ≡ None
+    → least (filter (nat_lt high) lsns) ≡ None
+none_above [] low high le none = refl
+none_above (lsn ∷ lsns) low high le none =
+    by_test (nat_lt low lsn) refl none (λ rest. none_above lsns low high le rest)
+  where
+    by_test : (b : Bool) → nat_lt low lsn ≡ b
+        → least (cond b (lsn ∷ filter (nat_lt low) lsns) (filter (nat_lt low) lsns)) ≡ None
+        → (least (filter (nat_lt low) lsns) ≡ None → least (filter (nat_lt high) lsns) ≡ None)
+        → least (filter (nat_lt high) (lsn ∷ lsns)) ≡ None
+    by_test true e some later = absurd (cc)
+    by_test false e rest later =
+        let below : lsn ≤ low = ltb-false low lsn e in
+        rw (le-ltb high lsn (omega arith)) (later rest)
+
+-- a page that is dirty by the last writes was so by the older ones: of one page another LSN counts as the
+-- last write, which is no lesser one
+dirty_unless : (rs : List Record) (written : List ℕ) (q p lsn : ℕ) → q < length written
+    → (q ≡ p → get_or written q 0 ≤ lsn) → is_clean rs (set written p lsn) q ≡ false → is_clean rs written q ≡ false
+dirty_unless rs written q p lsn known no_later dirty = elim (cases_eq q p) [
+  | inl same ↦ by_test same (rec_lsn rs q (get_or written q 0)) refl
+  | inr other ↦ ap (λ n. is_none (rec_lsn rs q n)) (sym (get_or-set_other written p q lsn 0 other)) ∙ dirty
+]
+  where
+    now_is : q ≡ p → get_or (set written p lsn) q 0 ≡ lsn
+    now_is same =
+        ap (λ n. get_or (set written n lsn) q 0) (sym same) ∙ get_or-set_same written q lsn 0 known
+
+    by_test : q ≡ p → (o : Option ℕ) → rec_lsn rs q (get_or written q 0) ≡ o → is_clean rs written q ≡ false
+    by_test same (Some found) e = ap (λ (o : Option ℕ). is_none o) e
+    by_test same None e =
+        let none = none_above (changes_on rs q) (get_or written q 0) lsn (no_later same) e in
+        absurd (true≢false (sym (ap (λ (o : Option ℕ). is_none o)
+        (ap (rec_lsn rs q) (now_is same) ∙ none)) ∙ dirty))
+
+-- what holds of a page that is stored
+record Safe (s : EngineState) (page : ℕ) (image : Page) (written : List ℕ) (writing : List (Option Page))
+    : Type 0 where
+  within : page < volume_pages s
+  newer : (d : Page) → IsWriting s.log page (get_or s.stored page d) image
+  low : image.lsn < s.forced_end
+  last : (written ≡ set s.written page image.lsn) ⊎ (written ≡ s.written)
+  count : length writing ≡ length s.writing
+  stored : AreStored s.log (set s.stored page image) written writing
+  images : (p : ℕ) → IfSome (get_or writing p None) (λ image. image.lsn < s.forced_end)
+
+module _ (s : EngineState) (page : ℕ) (fit : IsFit s) (within : page < volume_pages s) where
+  there : page < length s.stored
+  there = let count = fit.counted.stored in omega arith
+
+  known : page < length s.written
+  known = let count = fit.counted.written in omega arith
+
+  room : page < length s.writing
+  room = let count = fit.counted.writing in omega arith
+
+  image_is_newer : (image d : Page) → image_of s page ≡ Some image
+      → IsWriting s.log page (get_or s.stored page d) image
+  image_is_newer image d is =
+      subst (λ (o : Option Page). IfSome o (IsWriting s.log page (get_or s.stored page d))) is
+      (fit.stored.images page d there)
+
+  image_is_low : (image : Page) → image_of s page ≡ Some image → image.lsn < s.forced_end
+  image_is_low image is =
+      subst (λ (o : Option Page). IfSome o (λ image. image.lsn < s.forced_end)) is (fit.stable.images page)
+
+safe : (s : EngineState) (event : Event) (reply : Result Answer Refusal) (page : ℕ) (image : Page) (written : List ℕ)
+    (writing : List (Option Page)) → IsFit s → Storing s event reply page image written writing
+    → Safe s page image written writing
+safe s event reply page image written writing fit (Ends writes ends) = record {
+  within = ends.within;
+  newer = λ d. image_is_newer s page fit ends.within ends.image d ends.there;
+  low = image_is_low s page fit ends.within ends.image ends.there;
+  last = inl refl;
+  count = length-set s.writing page None;
+  stored = stored_ended s.log s.stored s.written s.writing page ends.image fit.stored (there s page fit ends.within)
+      (known s page fit ends.within) (room s page fit ends.within) ends.there;
+  images = λ p. image_set s.writing page p None (λ image. image.lsn < s.forced_end) tt (fit.stable.images p);
+}
+safe s event reply page image written writing fit (GoesOn ends) = record {
+  within = ends.within;
+  newer = λ d. image_is_newer s page fit ends.within ends.image d ends.there;
+  low = image_is_low s page fit ends.within ends.image ends.there;
+  last = inr refl;
+  count = refl;
+  stored = stored_failed s.log s.stored s.written s.writing page ends.image fit.stored (there s page fit ends.within)
+      ends.there;
+  images = fit.stable.images;
+}
+safe s event reply page image written writing fit (Repairs writes idle) = record {
+  within = idle.within;
+  newer = λ d. now_is_newer s page d fit (there s page fit idle.within);
+  low = let stable = image_is_stable s page fit in let forced = idle.forced in omega arith;
+  last = inl refl;
+  count = refl;
+  stored = stored_repaired s.log s.stored s.written s.writing page (page_now s page) fit.stored
+      (there s page fit idle.within) (known s page fit idle.within) idle.idle (past_now s.log page);
+  images = fit.stable.images;
+}
+safe s event reply page image written writing fit (RepairsHalf idle) = record {
+  within = idle.within;
+  newer = λ d. now_is_newer s page d fit (there s page fit idle.within);
+  low = let stable = image_is_stable s page fit in let forced = idle.forced in omega arith;
+  last = inr refl;
+  count = refl;
+  stored = stored_half s.log s.stored s.written s.writing page (page_now s page) fit.stored
+      (there s page fit idle.within) idle.idle (past_now s.log page)
+      (λ d. (now_is_newer s page d fit (there s page fit idle.within)).newer);
+  images = fit.stable.images;
+}
+
+pub stored_fit : (s : EngineState) (event : Event) (reply : Result Answer Refusal) (page : ℕ) (image : Page)
+    (written : List ℕ) (writing : List (Option Page)) → IsFit s
+    → Storing s event reply page image written writing
+    → IsFit (record s { stored = set s.stored page image; written = written; writing = writing })
+stored_fit s event reply page image written writing fit storing =
+    let is = safe s event reply page image written writing fit storing in
+    let stored_there = there s page fit is.within in
+    let after : EngineState = record s { stored = set s.stored page image; written = written; writing = writing } in
+    let counted : AreCounted after = record {
+      stored = length-set s.stored page image ∙ fit.counted.stored;
+      written = count_of is.last ∙ fit.counted.written;
+      writing = is.count ∙ fit.counted.writing;
+    } in
+    let held : AreHeld after = λ q lt dirty. fit.held q lt (was_dirty q lt is is.last dirty) in
+    let stored = is.stored in
+    let stable : AreStable after = record {
+      pages = All-set (λ page. page.lsn < s.forced_end) s.stored page image is.low fit.stable.pages;
+      images = is.images;
+    } in
+    let gathered : AreGathered (log_of s) (set s.stored page image) s.left =
+    gathered_set (log_of s) s.stored s.left page image image (is.newer image) stored_there fit.gathered in
+    let master : HasMaster (log_of s) (set s.stored page image) s.forced_end s.master =
+    master_set (log_of s) s.stored s.forced_end s.master page image image (is.newer image) stored_there fit.master in
+    let copied : AreCopied (log_of s) s.forced_end (set s.stored page image) s.copies =
+    copied_stored (log_of s) s.forced_end s.stored s.copies page image fit.copied stored_there (is.newer image).past
+    (λ d. (is.newer d).newer) in
+    assumption (counted, held, stored, stable, gathered, master, copied, fit)
+  where
+    count_of : (written ≡ set s.written page image.lsn) ⊎ (written ≡ s.written) → length written ≡ length s.written
+    count_of (inl is) = ap length is ∙ length-set s.written page image.lsn
+    count_of (inr is) = ap length is
+
+    was_dirty : (q : ℕ) → q < volume_pages s → Safe s page image written writing
+        → (written ≡ set s.written page image.lsn) ⊎ (written ≡ s.written)
+        → is_clean s.log written q ≡ false → is_clean s.log s.written q ≡ false
+    was_dirty q lt safe (inl is) dirty =
+        dirty_unless s.log s.written q page image.lsn (known s q fit lt)
+        (λ same.
+        let d = formatted q in
+        let reached = (fit.stored.pages q d (there s q fit lt)).reached in
+        let newer = subst (λ n. (get_or s.stored n d).lsn ≤ image.lsn) (sym same) (safe.newer d).newer in
+        omega arith)
+        (ap (λ (w : List ℕ). is_clean s.log w q) (sym is) ∙ dirty)
+    was_dirty q lt safe (inr is) dirty = ap (λ (w : List ℕ). is_clean s.log w q) (sym is) ∙ dirty
