@@ -14,12 +14,8 @@ pub use Rattle.engine_rules.proofs.Commits.{stays_forced, stays_kept}
 -- Each engine is fit: a new one, and one after a step.
 pub use Rattle.engine_rules.proofs.Fit.{Comes, comes, comes_few, comes_with, fit_appended}
 pub use Rattle.engine_rules.proofs.Fit.{fit_of_run, fit_of_step, new_is_fit}
--- The record that an accepted call appends.
-pub use Rattle.engine_rules.proofs.Makes.{gather_record_has, none_is_not_some}
--- It may come behind the log.
+-- The record of an accepted event may come behind the log.
 pub use Rattle.engine_rules.proofs.Follows.{follows}
--- No step changes how many frames there are.
-pub use Rattle.engine_rules.proofs.Runs.{frames_of_run}
 -- What the steps of a gather append, and what is gathered after them.
 pub use Rattle.engine_rules.proofs.GatherSteps.{begun_before, cursor_after_txn, end_ckpt_follows}
 pub use Rattle.engine_rules.proofs.GatherSteps.{first_txn, gathering_of, new_is_session}
@@ -30,6 +26,8 @@ pub use Rattle.engine_rules.proofs.Gathers.{at_left, ckpt_end_is, gather_case, p
 pub use Rattle.engine_rules.proofs.Gathers.{txn_entry, with_pages, with_txn}
 -- The volume grows: an engine that was fit stays so.
 pub use Rattle.engine_rules.proofs.Growth.{extended, extended_fit}
+-- The record that an accepted call appends, and what the call has passed.
+pub use Rattle.engine_rules.proofs.Makes.{gather_record_has, none_is_not_some}
 -- A page that comes into memory leaves the engine fit.
 pub use Rattle.engine_rules.proofs.PageComes.{fetched_fit, needed_within, page_comes}
 -- Laws of stored pages, of steps and of whole runs.
@@ -44,3 +42,5 @@ pub use Rattle.engine_rules.proofs.Refusals.{repair_passes, slot_passes, take_pa
 pub use Rattle.engine_rules.proofs.Refusals.{write_begin_passes, write_end_passes}
 -- An engine that goes on where an older one was lost is fit.
 pub use Rattle.engine_rules.proofs.Resuming.{resumed_fit, resumed_is, session_for}
+-- Laws of steps, over whole runs.
+pub use Rattle.engine_rules.proofs.Runs.{frames_of_run}
