@@ -4,9 +4,9 @@ pub mod CkptCalls
 pub mod CopyCalls
 pub mod Extends
 pub mod FetchCalls
-mod NoCounts
 pub mod PoolStates
 pub mod Repairs
 pub mod Retires
 pub mod Returned
+pub mod Uses
 pub mod WriteCalls

@@ -1,10 +1,9 @@
 //! The calls of the engine that take a fuzzy checkpoint in steps.
 
-ghost use Rattle.std.specs.Prelude.{ℕ, ◌≡◌, ◌<◌, ◌≤◌, Some, None, IfErr, IfOk, OnOk};
-ghost use Rattle.engine_rules.specs.EngineState.{end};
+ghost use Rattle.std.specs.Prelude.{◌≡◌, Some, None, IfErr, IfOk, OnOk};
 ghost use Rattle.engine_rules.specs.Refusal.{refusal};
-ghost use Rattle.engine_rules.specs.Step.{FailsForcing, Forces};
-ghost use Rattle.engine_rules.specs.Step.{IsByDevice, Step, gather_answer, reply_of};
+ghost use Rattle.engine_rules.specs.Step.{Step, gather_answer, reply_of};
+ghost use Rattle.engine_rules.specs.Uses.{ForcesDevice};
 ghost use Rattle.engine_calls.specs.declared.event.Answer.TheVariants as answer;
 ghost use Rattle.engine_calls.specs.declared.event.Event.TheVariants as event;
 
@@ -74,18 +73,8 @@ impl<S: PageStore, D: LogDevice> Engine<S, D> {
             (reply_of (λ p. answer.Point p.begin p.end p.redo) result) self.new.state }
         ensures noted { IfOk result (λ p. self.new.state.master ≡ Some p) }
         ensures store { self.new.store ≡ self.old.store }
-        ensures refused { IfErr result (λ why. ¬ IsByDevice why
-            → self.new.device ≡ self.old.device) }
-        ensures called { OnOk result (Forces D.called D.synced self.old self.new) }
-        ensures last_call { IfErr result (λ why. IsByDevice why
-            → FailsForcing D.called D.synced self.old self.new) }
-        ensures no_failure { OnOk result
-            (D.failures self.new.device ≡ D.failures self.old.device) }
-        ensures cause { IfErr result (λ why. IsByDevice why
-            → D.failures self.old.device < D.failures self.new.device) }
-        ensures same_bound { D.fails_from self.new.device ≡ D.fails_from self.old.device }
-        ensures past_bound { IfErr result (λ why. IsByDevice why
-            → D.fails_from self.old.device ≤ end self.new.state) }
+        ensures device { ForcesDevice D.called D.synced D.failures D.fails_from self.old result
+            self.new }
     {
         self.find_gathered()?;
         let Some(session) = self.session.take() else {

@@ -1,7 +1,7 @@
 //! The engine. Each call appends its record, updates the table of open transactions and changes the
 //! page, so that log, table and pool always agree.
 
-ghost use Rattle.std.specs.Prelude.{ℕ, ◌≡◌, ◌+◌, ◌<◌, ◌≤◌, ◌^◌, length, not, true, Some, None};
+ghost use Rattle.std.specs.Prelude.{◌≡◌, ◌+◌, ◌<◌, ◌≤◌, ◌^◌, not, true, Some, None};
 ghost use Rattle.std.specs.Prelude.{IfOk, IfErr, IfSome, OnOk, OnErr};
 ghost use Rattle.buffer_pool.specs.Frames.{IsResident};
 ghost use Rattle.buffer_pool.specs.Pool.{IsFrameCount};
@@ -9,17 +9,14 @@ ghost use Rattle.page_core.specs.Volume.{formatted_pages};
 ghost use Rattle.log_records.specs.Log.{IsPageCount};
 ghost use Rattle.log_records.specs.Record.{change_of};
 ghost use Rattle.log_rules.specs.Transactions.{is_open, last_lsn};
-ghost use Rattle.engine_rules.specs.Asked.{Asks, FailsAsking, asked};
+ghost use Rattle.engine_rules.specs.Asked.{asked};
 ghost use Rattle.engine_rules.specs.Call.{Calls};
-ghost use Rattle.engine_rules.specs.EngineState.{Fetches, IsFit, appended, end, forced_to, new_state};
-ghost use Rattle.engine_rules.specs.EngineState.{update_record};
+ghost use Rattle.engine_rules.specs.EngineState.{IsFit, appended, end, forced_to, new_state};
 ghost use Rattle.engine_rules.specs.Refusal.{active_refusal, change_refusal, frame_refusal};
-ghost use Rattle.engine_rules.specs.Refusal.{has_no_room};
-ghost use Rattle.engine_rules.specs.Refusal.{page_refusal, rolling_refusal};
-ghost use Rattle.engine_rules.specs.Refusal.{refusal};
-ghost use Rattle.engine_rules.specs.Step.{ForcedPart, IsAtRepair, IsByDevice, IsByStore, IsUnsure};
-ghost use Rattle.engine_rules.specs.Step.{FailsForcing, Forces, LeavesDevice};
-ghost use Rattle.engine_rules.specs.Step.{Step, reply_of};
+ghost use Rattle.engine_rules.specs.Refusal.{has_no_room, page_refusal, rolling_refusal};
+ghost use Rattle.engine_rules.specs.Step.{FailsForcing, ForcedPart, Forces, LeavesDevice, Step};
+ghost use Rattle.engine_rules.specs.Step.{reply_of};
+ghost use Rattle.engine_rules.specs.Uses.{AsksStore, ForcesDevice};
 ghost use Rattle.engine_calls.specs.declared.event.Answer.TheVariants as answer;
 ghost use Rattle.engine_calls.specs.declared.event.Event.TheVariants as event;
 
@@ -130,34 +127,11 @@ impl<S: PageStore, D: LogDevice> Engine<S, D> {
     /// Makes the call that an event stands for. Refusals are those of the call of that name.
     pub fn apply(&mut self, event: Event) -> Reply
         ensures step { Step self.old.state event result self.new.state }
-        ensures device { LeavesDevice event → self.new.device ≡ self.old.device }
-        ensures refused { IfErr result (λ why. ¬ IsByDevice why → ¬ IsAtRepair event why
-            → self.new.device ≡ self.old.device) }
-        ensures called { OnOk result (Forces D.called D.synced self.old self.new) }
-        ensures forced_first { IfErr result (λ why. IsAtRepair event why
-            → Forces D.called D.synced self.old self.new) }
-        ensures last_call { IfErr result (λ why. IsByDevice why
-            → FailsForcing D.called D.synced self.old self.new) }
-        ensures sound { IfErr result (λ why. ¬ IsByDevice why
-            → D.failures self.new.device ≡ D.failures self.old.device) }
-        ensures no_failure { OnOk result
-            (D.failures self.new.device ≡ D.failures self.old.device) }
-        ensures cause { IfErr result (λ why. IsByDevice why
-            → D.failures self.old.device < D.failures self.new.device) }
-        ensures same_bound { D.fails_from self.new.device ≡ D.fails_from self.old.device }
-        ensures past_bound { IfErr result (λ why. IsByDevice why
-            → D.fails_from self.old.device ≤ end self.new.state) }
-
-        ensures asked { OnOk result
-            (Asks S.gave S.wrote S.grew (asked self.old.state event) self.old self.new) }
-        ensures store_refused { IfErr result (λ why. ¬ IsByStore why
-            → self.new.store ≡ self.old.store) }
-        ensures no_store_failure { OnOk result
-            (S.failures self.new.store ≡ S.failures self.old.store) }
-        ensures failed { IfErr result (λ why. IsByStore why
-            → FailsAsking S.gave S.wrote S.grew (asked self.old.state event) self.old self.new) }
-        ensures store_cause { IfErr result (λ why. IsByStore why
-            → S.failures self.old.store < S.failures self.new.store) }
+        ensures store { AsksStore S.gave S.wrote S.grew S.failures (asked self.old.state event)
+            self.old result self.new }
+        ensures device { ForcesDevice D.called D.synced D.failures D.fails_from self.old result
+            self.new }
+        ensures no_device { LeavesDevice event → self.new.device ≡ self.old.device }
     {
         match event {
             Event::Begin => self.begin().map(|(txn, lsn)| Answer::Began { txn, lsn }),
@@ -246,18 +220,8 @@ impl<S: PageStore, D: LogDevice> Engine<S, D> {
         ensures step { Step self.old.state (event.Set txn page slot number)
             (reply_of answer.Logged result) self.new.state }
         ensures device { self.new.device ≡ self.old.device }
-        ensures store { ¬ Fetches self.old.state (event.Set txn page slot number)
-            → self.new.store ≡ self.old.store }
-        ensures asked { OnOk result (Asks S.gave S.wrote S.grew
-            (asked self.old.state (event.Set txn page slot number)) self.old self.new) }
-        ensures failed { IfErr result (λ why. IsByStore why → FailsAsking S.gave S.wrote S.grew
-            (asked self.old.state (event.Set txn page slot number)) self.old self.new) }
-        ensures store_refused { IfErr result (λ why. ¬ IsByStore why
-            → self.new.store ≡ self.old.store) }
-        ensures no_store_failure { OnOk result
-            (S.failures self.new.store ≡ S.failures self.old.store) }
-        ensures store_cause { IfErr result (λ why. IsByStore why
-            → S.failures self.old.store < S.failures self.new.store) }
+        ensures store { AsksStore S.gave S.wrote S.grew S.failures
+            (asked self.old.state (event.Set txn page slot number)) self.old result self.new }
     {
         let prev = self.find_changeable(txn, page, slot, ChangeKind::Set)?;
         // The number before is read where the page is in memory.
@@ -280,18 +244,8 @@ impl<S: PageStore, D: LogDevice> Engine<S, D> {
         ensures step { Step self.old.state (event.Add txn page slot amount)
             (reply_of answer.Logged result) self.new.state }
         ensures device { self.new.device ≡ self.old.device }
-        ensures store { ¬ Fetches self.old.state (event.Add txn page slot amount)
-            → self.new.store ≡ self.old.store }
-        ensures asked { OnOk result (Asks S.gave S.wrote S.grew
-            (asked self.old.state (event.Add txn page slot amount)) self.old self.new) }
-        ensures failed { IfErr result (λ why. IsByStore why → FailsAsking S.gave S.wrote S.grew
-            (asked self.old.state (event.Add txn page slot amount)) self.old self.new) }
-        ensures store_refused { IfErr result (λ why. ¬ IsByStore why
-            → self.new.store ≡ self.old.store) }
-        ensures no_store_failure { OnOk result
-            (S.failures self.new.store ≡ S.failures self.old.store) }
-        ensures store_cause { IfErr result (λ why. IsByStore why
-            → S.failures self.old.store < S.failures self.new.store) }
+        ensures store { AsksStore S.gave S.wrote S.grew S.failures
+            (asked self.old.state (event.Add txn page slot amount)) self.old result self.new }
     {
         let prev = self.find_changeable(txn, page, slot, ChangeKind::Add)?;
         self.update(txn, prev, page, slot, Change::Add { amount })
@@ -305,18 +259,8 @@ impl<S: PageStore, D: LogDevice> Engine<S, D> {
             self.new.state }
         ensures log { self.new.state.log ≡ self.old.state.log }
         ensures device { self.new.device ≡ self.old.device }
-        ensures store { ¬ Fetches self.old.state (event.Read page slot)
-            → self.new.store ≡ self.old.store }
-        ensures asked { OnOk result (Asks S.gave S.wrote S.grew
-            (asked self.old.state (event.Read page slot)) self.old self.new) }
-        ensures failed { IfErr result (λ why. IsByStore why → FailsAsking S.gave S.wrote S.grew
-            (asked self.old.state (event.Read page slot)) self.old self.new) }
-        ensures store_refused { IfErr result (λ why. ¬ IsByStore why
-            → self.new.store ≡ self.old.store) }
-        ensures no_store_failure { OnOk result
-            (S.failures self.new.store ≡ S.failures self.old.store) }
-        ensures store_cause { IfErr result (λ why. IsByStore why
-            → S.failures self.old.store < S.failures self.new.store) }
+        ensures store { AsksStore S.gave S.wrote S.grew S.failures
+            (asked self.old.state (event.Read page slot)) self.old result self.new }
     {
         self.find_slot(page, slot)?;
         self.find_frame(page)?;
@@ -330,18 +274,8 @@ impl<S: PageStore, D: LogDevice> Engine<S, D> {
         ensures step { Step self.old.state (event.Commit txn) (reply_of answer.Logged result)
             self.new.state }
         ensures store { self.new.store ≡ self.old.store }
-        ensures refused { IfErr result (λ why. ¬ IsUnsure why
-            → self.new.device ≡ self.old.device) }
-        ensures called { OnOk result (Forces D.called D.synced self.old self.new) }
-        ensures last_call { IfErr result (λ why. IsUnsure why
-            → FailsForcing D.called D.synced self.old self.new) }
-        ensures no_failure { OnOk result
-            (D.failures self.new.device ≡ D.failures self.old.device) }
-        ensures cause { IfErr result (λ why. IsUnsure why
-            → D.failures self.old.device < D.failures self.new.device) }
-        ensures same_bound { D.fails_from self.new.device ≡ D.fails_from self.old.device }
-        ensures past_bound { IfErr result (λ why. IsUnsure why
-            → D.fails_from self.old.device ≤ end self.new.state) }
+        ensures device { ForcesDevice D.called D.synced D.failures D.fails_from self.old result
+            self.new }
     {
         let prev = self.find_active(txn)?;
         let lsn = self.log.end();
@@ -371,13 +305,8 @@ impl<S: PageStore, D: LogDevice> Engine<S, D> {
         ensures step { Step self.old.state event.Force (reply_of answer.Forced result)
             self.new.state }
         ensures store { self.new.store ≡ self.old.store }
-        ensures called { OnOk result (Forces D.called D.synced self.old self.new) }
-        ensures last_call { OnErr result (FailsForcing D.called D.synced self.old self.new) }
-        ensures no_failure { OnOk result
-            (D.failures self.new.device ≡ D.failures self.old.device) }
-        ensures cause { OnErr result (D.failures self.old.device < D.failures self.new.device) }
-        ensures same_bound { D.fails_from self.new.device ≡ D.fails_from self.old.device }
-        ensures past_bound { OnErr result (D.fails_from self.old.device ≤ end self.new.state) }
+        ensures device { ForcesDevice D.called D.synced D.failures D.fails_from self.old result
+            self.new }
     {
         match self.force_log() {
             Ok(()) => Ok(self.log.end()),

@@ -1,9 +1,10 @@
 //! The engine's call that grows its volume.
 
-ghost use Rattle.std.specs.Prelude.{◌≡◌, ◌<◌, Some, None, IfErr, OnOk};
-ghost use Rattle.engine_rules.specs.Asked.{Asks, FailsAsking, asked};
+ghost use Rattle.std.specs.Prelude.{◌≡◌, Some, None, IfErr, OnOk};
+ghost use Rattle.engine_rules.specs.Asked.{asked};
 ghost use Rattle.engine_rules.specs.Refusal.{refusal};
-ghost use Rattle.engine_rules.specs.Step.{IsByStore, Step, reply_of};
+ghost use Rattle.engine_rules.specs.Step.{Step, reply_of};
+ghost use Rattle.engine_rules.specs.Uses.{AsksStore};
 ghost use Rattle.engine_calls.specs.declared.event.Answer.TheVariants as answer;
 ghost use Rattle.engine_calls.specs.declared.event.Event.TheVariants as event;
 
@@ -26,16 +27,8 @@ impl<S: PageStore, D: LogDevice> Engine<S, D> {
         ensures step { Step self.old.state (event.Extend count) (reply_of answer.Logged result)
             self.new.state }
         ensures device { self.new.device ≡ self.old.device }
-        ensures store_refused { IfErr result (λ why. ¬ IsByStore why
-            → self.new.store ≡ self.old.store) }
-        ensures asked { OnOk result (Asks S.gave S.wrote S.grew
-            (asked self.old.state (event.Extend count)) self.old self.new) }
-        ensures failed { IfErr result (λ why. IsByStore why → FailsAsking S.gave S.wrote S.grew
-            (asked self.old.state (event.Extend count)) self.old self.new) }
-        ensures no_store_failure { OnOk result
-            (S.failures self.new.store ≡ S.failures self.old.store) }
-        ensures store_cause { IfErr result (λ why. IsByStore why
-            → S.failures self.old.store < S.failures self.new.store) }
+        ensures store { AsksStore S.gave S.wrote S.grew S.failures
+            (asked self.old.state (event.Extend count)) self.old result self.new }
     {
         self.find_larger(count)?;
         if self.log.make_room().is_err() {

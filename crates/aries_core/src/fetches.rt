@@ -9,12 +9,13 @@ ghost use Rattle.log_rules.specs.Growth.{MayGrow};
 ghost use Rattle.log_rules.specs.Linked.{number_in};
 ghost use Rattle.log_rules.specs.Transactions.{last_lsn};
 ghost use Rattle.buffer_pool.specs.Frames.{IsResident, is_resident};
-ghost use Rattle.engine_rules.specs.Asked.{Asks, FailsAsking, page_asked};
+ghost use Rattle.engine_rules.specs.Asked.{page_asked};
 ghost use Rattle.engine_rules.specs.Call.{Calls};
 ghost use Rattle.engine_rules.specs.EngineState.{appended, end, update_record, with_page};
 ghost use Rattle.engine_rules.specs.EngineState.{volume_pages};
 ghost use Rattle.engine_rules.specs.Refusal.{frame_refusal, page_refusal};
-ghost use Rattle.engine_rules.specs.Step.{FailsFetching, IsByStore};
+ghost use Rattle.engine_rules.specs.Step.{FailsFetching};
+ghost use Rattle.engine_rules.specs.Uses.{AsksStore};
 
 use crate::engine::Engine;
 use engine_calls::Refusal;
@@ -68,17 +69,8 @@ impl<S: PageStore, D: LogDevice> Engine<S, D> {
         ensures same { OnErr result (self.new.state ≡ self.old.state) }
         ensures absent { OnErr result (is_resident self.old.state.resident page ≡ false) }
         ensures device { self.new.device ≡ self.old.device }
-        ensures store { IsResident self.old.state.resident page → self.new.store ≡ self.old.store }
-        ensures store_refused { IfErr result (λ why. ¬ IsByStore why
-            → self.new.store ≡ self.old.store) }
-        ensures no_store_failure { OnOk result
-            (S.failures self.new.store ≡ S.failures self.old.store) }
-        ensures asked { OnOk result
-            (Asks S.gave S.wrote S.grew (page_asked self.old.state page) self.old self.new) }
-        ensures failed { IfErr result (λ why. IsByStore why
-            → FailsAsking S.gave S.wrote S.grew (page_asked self.old.state page) self.old self.new) }
-        ensures store_cause { IfErr result (λ why. IsByStore why
-            → S.failures self.old.store < S.failures self.new.store) }
+        ensures store { AsksStore S.gave S.wrote S.grew S.failures (page_asked self.old.state page)
+            self.old result self.new }
     {
         if self.pool.is_resident(page) {
             return Ok(());
@@ -114,17 +106,8 @@ impl<S: PageStore, D: LogDevice> Engine<S, D> {
         ensures err { IfErr result (λ why. FailsFetching self.old.state page why) }
         ensures same { OnErr result (self.new.state ≡ self.old.state) }
         ensures device { self.new.device ≡ self.old.device }
-        ensures store { IsResident self.old.state.resident page → self.new.store ≡ self.old.store }
-        ensures store_refused { IfErr result (λ why. ¬ IsByStore why
-            → self.new.store ≡ self.old.store) }
-        ensures no_store_failure { OnOk result
-            (S.failures self.new.store ≡ S.failures self.old.store) }
-        ensures asked { OnOk result
-            (Asks S.gave S.wrote S.grew (page_asked self.old.state page) self.old self.new) }
-        ensures failed { IfErr result (λ why. IsByStore why
-            → FailsAsking S.gave S.wrote S.grew (page_asked self.old.state page) self.old self.new) }
-        ensures store_cause { IfErr result (λ why. IsByStore why
-            → S.failures self.old.store < S.failures self.new.store) }
+        ensures store { AsksStore S.gave S.wrote S.grew S.failures (page_asked self.old.state page)
+            self.old result self.new }
     {
         let lsn = self.log.end();
         if self.pool.is_resident(page) {
@@ -165,16 +148,8 @@ impl<S: PageStore, D: LogDevice> Engine<S, D> {
         ensures err { IfErr result (λ why. FailsFetching self.old.state page why) }
         ensures same { OnErr result (self.new.state ≡ self.old.state) }
         ensures device { self.new.device ≡ self.old.device }
-        ensures store_refused { IfErr result (λ why. ¬ IsByStore why
-            → self.new.store ≡ self.old.store) }
-        ensures no_store_failure { OnOk result
-            (S.failures self.new.store ≡ S.failures self.old.store) }
-        ensures asked { OnOk result
-            (Asks S.gave S.wrote S.grew (page_asked self.old.state page) self.old self.new) }
-        ensures failed { IfErr result (λ why. IsByStore why
-            → FailsAsking S.gave S.wrote S.grew (page_asked self.old.state page) self.old self.new) }
-        ensures store_cause { IfErr result (λ why. IsByStore why
-            → S.failures self.old.store < S.failures self.new.store) }
+        ensures store { AsksStore S.gave S.wrote S.grew S.failures (page_asked self.old.state page)
+            self.old result self.new }
     {
         if self.log.make_room().is_err() || self.pool.make_room().is_err() {
             return Err(Refusal::OutOfMemory);
@@ -222,17 +197,8 @@ impl<S: PageStore, D: LogDevice> Engine<S, D> {
         ensures err { IfErr result (λ why. FailsFetching self.old.state page why) }
         ensures same { OnErr result (self.new.state ≡ self.old.state) }
         ensures device { self.new.device ≡ self.old.device }
-        ensures store { IsResident self.old.state.resident page → self.new.store ≡ self.old.store }
-        ensures store_refused { IfErr result (λ why. ¬ IsByStore why
-            → self.new.store ≡ self.old.store) }
-        ensures no_store_failure { OnOk result
-            (S.failures self.new.store ≡ S.failures self.old.store) }
-        ensures asked { OnOk result
-            (Asks S.gave S.wrote S.grew (page_asked self.old.state page) self.old self.new) }
-        ensures failed { IfErr result (λ why. IsByStore why
-            → FailsAsking S.gave S.wrote S.grew (page_asked self.old.state page) self.old self.new) }
-        ensures store_cause { IfErr result (λ why. IsByStore why
-            → S.failures self.old.store < S.failures self.new.store) }
+        ensures store { AsksStore S.gave S.wrote S.grew S.failures (page_asked self.old.state page)
+            self.old result self.new }
     {
         if self.pool.is_resident(page) {
             return self.append(next);

@@ -1,11 +1,10 @@
 //! The calls of the engine that write a page to its store in two steps.
 
-ghost use Rattle.std.specs.Prelude.{◌≡◌, ◌<◌, ◌≤◌, Some, None, IfErr, OnOk};
-ghost use Rattle.engine_rules.specs.Asked.{Asks, FailsAsking, asked};
-ghost use Rattle.engine_rules.specs.EngineState.{end};
+ghost use Rattle.std.specs.Prelude.{◌≡◌, Some, None, IfErr, OnOk};
+ghost use Rattle.engine_rules.specs.Asked.{asked};
 ghost use Rattle.engine_rules.specs.Refusal.{refusal};
-ghost use Rattle.engine_rules.specs.Step.{FailsForcing, Forces};
-ghost use Rattle.engine_rules.specs.Step.{IsByDevice, IsByStore, Step, reply_of};
+ghost use Rattle.engine_rules.specs.Step.{Step, reply_of};
+ghost use Rattle.engine_rules.specs.Uses.{AsksStore, ForcesDevice};
 ghost use Rattle.engine_calls.specs.declared.event.Answer.TheVariants as answer;
 ghost use Rattle.engine_calls.specs.declared.event.Event.TheVariants as event;
 
@@ -26,18 +25,8 @@ impl<S: PageStore, D: LogDevice> Engine<S, D> {
         ensures step { Step self.old.state (event.WriteBegin page) (reply_of answer.Writing result)
             self.new.state }
         ensures store { self.new.store ≡ self.old.store }
-        ensures refused { IfErr result (λ why. ¬ IsByDevice why
-            → self.new.device ≡ self.old.device) }
-        ensures called { OnOk result (Forces D.called D.synced self.old self.new) }
-        ensures last_call { IfErr result (λ why. IsByDevice why
-            → FailsForcing D.called D.synced self.old self.new) }
-        ensures no_failure { OnOk result
-            (D.failures self.new.device ≡ D.failures self.old.device) }
-        ensures cause { IfErr result (λ why. IsByDevice why
-            → D.failures self.old.device < D.failures self.new.device) }
-        ensures same_bound { D.fails_from self.new.device ≡ D.fails_from self.old.device }
-        ensures past_bound { IfErr result (λ why. IsByDevice why
-            → D.fails_from self.old.device ≤ end self.new.state) }
+        ensures device { ForcesDevice D.called D.synced D.failures D.fails_from self.old result
+            self.new }
     {
         self.find_dirty(page)?;
         let Ok(image) = self.pool.image_of(page) else {
@@ -58,16 +47,8 @@ impl<S: PageStore, D: LogDevice> Engine<S, D> {
         ensures step { Step self.old.state (event.WriteEnd page) (reply_of answer.Written result)
             self.new.state }
         ensures device { self.new.device ≡ self.old.device }
-        ensures refused { IfErr result (λ why. ¬ IsByStore why
-            → self.new.store ≡ self.old.store) }
-        ensures asked { OnOk result (Asks S.gave S.wrote S.grew
-            (asked self.old.state (event.WriteEnd page)) self.old self.new) }
-        ensures failed { IfErr result (λ why. IsByStore why → FailsAsking S.gave S.wrote S.grew
-            (asked self.old.state (event.WriteEnd page)) self.old self.new) }
-        ensures no_failure { OnOk result
-            (S.failures self.new.store ≡ S.failures self.old.store) }
-        ensures cause { IfErr result (λ why. IsByStore why
-            → S.failures self.old.store < S.failures self.new.store) }
+        ensures store { AsksStore S.gave S.wrote S.grew S.failures
+            (asked self.old.state (event.WriteEnd page)) self.old result self.new }
     {
         self.find_writing(page)?;
         match self.pool.write_end(page) {

@@ -1,12 +1,11 @@
 //! The engine's call that stores a page anew, rebuilt from image copies and the log.
 
-ghost use Rattle.std.specs.Prelude.{◌≡◌, ◌<◌, ◌≤◌, Some, None, IfOk, IfErr, OnOk};
+ghost use Rattle.std.specs.Prelude.{◌≡◌, Some, None, IfOk, IfErr, OnOk};
 ghost use Rattle.log_records.specs.Coverage.{IsPast};
-ghost use Rattle.engine_rules.specs.Asked.{Asks, FailsAsking, asked};
-ghost use Rattle.engine_rules.specs.EngineState.{end, page_now};
+ghost use Rattle.engine_rules.specs.Asked.{asked};
 ghost use Rattle.engine_rules.specs.Refusal.{refusal};
-ghost use Rattle.engine_rules.specs.Step.{FailsForcing, Forces, IsByDevice, IsByStore, Step};
-ghost use Rattle.engine_rules.specs.Step.{reply_of};
+ghost use Rattle.engine_rules.specs.Step.{Step, reply_of};
+ghost use Rattle.engine_rules.specs.Uses.{AsksStore, ForcesDevice};
 ghost use Rattle.engine_calls.specs.declared.event.Answer.TheVariants as answer;
 ghost use Rattle.engine_calls.specs.declared.event.Event.TheVariants as event;
 
@@ -31,33 +30,10 @@ impl<S: PageStore, D: LogDevice> Engine<S, D> {
     pub fn repair(&mut self, copy: CopyId, page: PageNo) -> Result<Lsn, Refusal>
         ensures step { Step self.old.state (event.Repair copy page)
             (reply_of answer.Repaired result) self.new.state }
-        ensures refused { IfErr result (λ why. ¬ IsByDevice why → ¬ IsByStore why
-            → self.new.device ≡ self.old.device) }
-        ensures called { OnOk result (Forces D.called D.synced self.old self.new) }
-        ensures forced_first { IfErr result (λ why. IsByStore why
-            → Forces D.called D.synced self.old self.new) }
-        ensures last_call { IfErr result (λ why. IsByDevice why
-            → FailsForcing D.called D.synced self.old self.new) }
-        ensures no_failure { OnOk result
-            (D.failures self.new.device ≡ D.failures self.old.device) }
-        ensures sound { IfErr result (λ why. ¬ IsByDevice why
-            → D.failures self.new.device ≡ D.failures self.old.device) }
-        ensures cause { IfErr result (λ why. IsByDevice why
-            → D.failures self.old.device < D.failures self.new.device) }
-        ensures same_bound { D.fails_from self.new.device ≡ D.fails_from self.old.device }
-        ensures past_bound { IfErr result (λ why. IsByDevice why
-            → D.fails_from self.old.device ≤ end self.new.state) }
-
-        ensures store_refused { IfErr result (λ why. ¬ IsByStore why
-            → self.new.store ≡ self.old.store) }
-        ensures asked { OnOk result (Asks S.gave S.wrote S.grew
-            (asked self.old.state (event.Repair copy page)) self.old self.new) }
-        ensures failed { IfErr result (λ why. IsByStore why → FailsAsking S.gave S.wrote S.grew
-            (asked self.old.state (event.Repair copy page)) self.old self.new) }
-        ensures no_store_failure { OnOk result
-            (S.failures self.new.store ≡ S.failures self.old.store) }
-        ensures store_cause { IfErr result (λ why. IsByStore why
-            → S.failures self.old.store < S.failures self.new.store) }
+        ensures device { ForcesDevice D.called D.synced D.failures D.fails_from self.old result
+            self.new }
+        ensures store { AsksStore S.gave S.wrote S.grew S.failures
+            (asked self.old.state (event.Repair copy page)) self.old result self.new }
     {
         self.find_repairable(copy, page)?;
         let mut rebuilt = self.copied(copy, page)?;

@@ -1,13 +1,14 @@
 //! Steps back through the pending changes of a transaction: those of its rollback, and those to a
 //! savepoint.
 
-ghost use Rattle.std.specs.Prelude.{◌≡◌, ◌<◌, IfErr, IfOk, None, OnOk, false, is_none};
+ghost use Rattle.std.specs.Prelude.{◌≡◌, IfErr, IfOk, None, OnOk, false, is_none};
 ghost use Rattle.log_rules.specs.Savepoints.{savepoint};
 ghost use Rattle.log_rules.specs.Transactions.{last_lsn};
-ghost use Rattle.engine_rules.specs.Asked.{Asks, FailsAsking, asked};
-ghost use Rattle.engine_rules.specs.EngineState.{Fetches, comp_record, taken_back};
+ghost use Rattle.engine_rules.specs.Asked.{asked};
+ghost use Rattle.engine_rules.specs.EngineState.{comp_record, taken_back};
 ghost use Rattle.engine_rules.specs.Refusal.{active_refusal};
-ghost use Rattle.engine_rules.specs.Step.{IsByStore, Step, reply_of, step_back_answer, undo_answer};
+ghost use Rattle.engine_rules.specs.Step.{Step, reply_of, step_back_answer, undo_answer};
+ghost use Rattle.engine_rules.specs.Uses.{AsksStore};
 ghost use Rattle.engine_calls.specs.declared.event.Answer.TheVariants as answer;
 ghost use Rattle.engine_calls.specs.declared.event.Event.TheVariants as event;
 
@@ -28,18 +29,8 @@ impl<S: PageStore, D: LogDevice> Engine<S, D> {
         ensures step { Step self.old.state (event.UndoStep txn) (reply_of undo_answer result)
             self.new.state }
         ensures device { self.new.device ≡ self.old.device }
-        ensures store { ¬ Fetches self.old.state (event.UndoStep txn)
-            → self.new.store ≡ self.old.store }
-        ensures asked { OnOk result (Asks S.gave S.wrote S.grew
-            (asked self.old.state (event.UndoStep txn)) self.old self.new) }
-        ensures failed { IfErr result (λ why. IsByStore why → FailsAsking S.gave S.wrote S.grew
-            (asked self.old.state (event.UndoStep txn)) self.old self.new) }
-        ensures store_refused { IfErr result (λ why. ¬ IsByStore why
-            → self.new.store ≡ self.old.store) }
-        ensures no_store_failure { OnOk result
-            (S.failures self.new.store ≡ S.failures self.old.store) }
-        ensures store_cause { IfErr result (λ why. IsByStore why
-            → S.failures self.old.store < S.failures self.new.store) }
+        ensures store { AsksStore S.gave S.wrote S.grew S.failures
+            (asked self.old.state (event.UndoStep txn)) self.old result self.new }
     {
         let prev = self.find_rolling(txn)?;
         let lsn = self.log.end();
@@ -75,18 +66,8 @@ impl<S: PageStore, D: LogDevice> Engine<S, D> {
         ensures step { Step self.old.state (event.UndoTo txn savepoint)
             (reply_of step_back_answer result) self.new.state }
         ensures device { self.new.device ≡ self.old.device }
-        ensures store { ¬ Fetches self.old.state (event.UndoTo txn savepoint)
-            → self.new.store ≡ self.old.store }
-        ensures asked { OnOk result (Asks S.gave S.wrote S.grew
-            (asked self.old.state (event.UndoTo txn savepoint)) self.old self.new) }
-        ensures failed { IfErr result (λ why. IsByStore why → FailsAsking S.gave S.wrote S.grew
-            (asked self.old.state (event.UndoTo txn savepoint)) self.old self.new) }
-        ensures store_refused { IfErr result (λ why. ¬ IsByStore why
-            → self.new.store ≡ self.old.store) }
-        ensures no_store_failure { OnOk result
-            (S.failures self.new.store ≡ S.failures self.old.store) }
-        ensures store_cause { IfErr result (λ why. IsByStore why
-            → S.failures self.old.store < S.failures self.new.store) }
+        ensures store { AsksStore S.gave S.wrote S.grew S.failures
+            (asked self.old.state (event.UndoTo txn savepoint)) self.old result self.new }
     {
         let prev = self.find_active(txn)?;
         match self.find_past(txn, savepoint)? {

@@ -12,4 +12,5 @@ pub mod Resumed
 pub mod Run
 pub mod Step
 pub mod Storage
+pub mod Uses
 pub mod Written

@@ -8,7 +8,8 @@ use Rattle.engine_rules.proofs.Public.{work_of_run}
 use Rattle.engine_rules.proofs.Public.{copies_of_run}
 use Rattle.engine_rules.proofs.Public.{frames_of_run}
 use Rattle.engine_rules.proofs.Public.{written_of_run}
-use Rattle.engine_rules.proofs.Public.{by_device, by_store, call_on, left_sound, plays_push, run_push, tells_push}
+use Rattle.aries_core.proofs.Uses.{call_on}
+use Rattle.engine_rules.proofs.Public.{by_device, by_store, left_sound, plays_push, run_push, tells_push}
 use Rattle.engine_rules.proofs.Public.{within_push}
 use Rattle.aries_core.proofs.played.play.Invariants.{given_storage}
 use Rattle.engine_rules.proofs.Public.{new_is_sized}
@@ -34,24 +35,21 @@ loop-event-preserved g c =
           c.apply.result c.apply.new.self.state so_far.run c.apply.ensures.step);
       tells = rw items (tells_push IsByDevice by_device g.D.LogDevice.failures (g.D.LogDevice.failures c.args.device)
           c.loop-event.engine.device c.apply.new.self.device c.loop-event.replies.items c.apply.result so_far.tells
-          c.apply.ensures.sound c.apply.ensures.no_failure c.apply.ensures.cause);
+          c.apply.ensures.device.sound c.apply.ensures.device.no_failure c.apply.ensures.device.cause);
       store_tells = rw items (tells_push IsByStore by_store g.S.PageStore.failures (g.S.PageStore.failures c.args.store)
           c.loop-event.engine.store c.apply.new.self.store c.loop-event.replies.items c.apply.result so_far.store_tells
           (left_sound IsByStore g.S.PageStore.failures c.loop-event.engine.store c.apply.new.self.store c.apply.result
-          c.apply.ensures.store_refused) c.apply.ensures.no_store_failure c.apply.ensures.store_cause);
+          c.apply.ensures.store.refused) c.apply.ensures.store.no_failure c.apply.ensures.store.cause);
       on = rw (next, items) (plays_push (given_storage g) c.args.setup.pages c.args.setup.frames c.args.store c.args.device (take i events)
           c.loop-event.replies.items c.loop-event.engine event c.apply.result c.apply.new.self so_far.on
-          (call_on (given_storage g) c.loop-event.engine event c.apply.result c.apply.new.self c.apply.ensures.step
-          c.apply.ensures.refused c.apply.ensures.called c.apply.ensures.forced_first c.apply.ensures.last_call
-          c.apply.ensures.sound c.apply.ensures.no_failure
-          c.apply.ensures.cause c.apply.ensures.asked c.apply.ensures.store_refused c.apply.ensures.failed
-          c.apply.ensures.no_store_failure
-          c.apply.ensures.store_cause (record { pages = c.log-in-loop-event.ensures.pages; records = c.log-in-loop-event.ensures.records })));
-      bound = c.apply.ensures.same_bound ∙ so_far.bound;
+          (call_on (given_storage g) g.D.LogDevice.fails_from c.loop-event.engine event c.apply.result c.apply.new.self
+          c.apply.ensures.step c.apply.ensures.store c.apply.ensures.device
+          (record { pages = c.log-in-loop-event.ensures.pages; records = c.log-in-loop-event.ensures.records })));
+      bound = c.apply.ensures.device.same_bound ∙ so_far.bound;
       within_bound = rw items (within_push c.args.setup.pages c.args.setup.frames (length events) (g.D.LogDevice.fails_from c.args.device)
           (g.D.LogDevice.fails_from c.loop-event.engine.device) (take i events) c.loop-event.replies.items
           c.loop-event.engine.state event c.apply.result c.apply.new.self.state so_far.run c.apply.ensures.step
-          (omega (arith, length-take i events)) so_far.bound c.apply.ensures.past_bound so_far.within_bound);
+          (omega (arith, length-take i events)) so_far.bound c.apply.ensures.device.past_bound so_far.within_bound);
     }
 
 pub returns-clause-work : goal.returns-clause-work

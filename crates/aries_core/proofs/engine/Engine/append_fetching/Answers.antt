@@ -1,5 +1,5 @@
-use Rattle.std.proofs.Common.{◌≡◌, ◌<◌, length, get_or, sym, ap, subst, ◌∙◌, arith, false}
-use Rattle.std.specs.Prelude.{Result, Ok, Err, OnOk, is_err}
+use Rattle.std.proofs.Common.{◌≡◌, ◌<◌, length, get_or, refl, sym, ap, subst, ◌∙◌, arith}
+use Rattle.std.specs.Prelude.{Ok, Err}
 use Rattle.page_core.specs.Page.{formatted}
 use Rattle.buffer_pool.specs.Frames.{fetched}
 use Rattle.buffer_pool.specs.Pool.{PoolView, is_clean, written_of}
@@ -11,17 +11,14 @@ use Rattle.engine_rules.specs.EngineState.{EngineState, EngineView, appended, en
 use Rattle.engine_rules.specs.EngineState.{volume_pages}
 use Rattle.aries_core.specs.OpenCkpt.{media_view}
 use Rattle.aries_core.proofs.Appends.{after_fetch, appended_is, valid_with}
-use Rattle.engine_rules.specs.Asked.{Asks, FailsAsking, page_asked}
-use Rattle.aries_core.proofs.Asks.{asks_page, fails_asking, why_failed}
+use Rattle.engine_calls.specs.declared.refusal.Refusal.TheVariants.{StoreFault}
+use Rattle.engine_rules.specs.Asked.{page_asked}
+use Rattle.engine_rules.specs.Uses.{AsksStore}
+use Rattle.aries_core.proofs.Asks.{failing, page_came, page_failed, said, why_failed}
 use Rattle.engine_rules.proofs.Public.{comes, comes_few}
 use Rattle.aries_core.proofs.PoolStates.{fetched_is}
 use Rattle.aries_core.proofs.engine.Engine.append_fetching.Goals as goal
 use Rattle.aries_core.proofs.engine.Engine.append_fetching.Given as given
-
--- what an answer that is no `Err` says, and what one says that is
-said : {T E : Type 0} (r : Result T E) (P : Type 0) → is_err r ≡ false → OnOk r P → P
-said (Ok x) P ok h = h
-said (Err e) P ok h = cc
 
 pub return_of-back-requires : goal.return_of-back-requires
 return_of-back-requires g c =
@@ -167,38 +164,34 @@ returns-clause-ok g c =
     ≡ appended (with_page v.state c.args.page) c.args.next) c.self.view_is
     (grown g c ∙ ap (λ (t : EngineState). appended t c.args.next) (came g c))
 
-pub returns-clause-asked : goal.returns-clause-asked
-returns-clause-asked g c =
+pub returns-clause-store : goal.returns-clause-store
+returns-clause-store g c =
     let it = c.self.inside in
-    let stored = g.S.PageStore.stored in
-    let gave = g.S.PageStore.gave in
-    let wrote = g.S.PageStore.wrote in
-    let grew = g.S.PageStore.grew in
+    let store = g.S.PageStore in
     let media = media_view it.master it.session it.vault.copies it.returns.made in
     let p = c.args.page in
-    let new = engine_view stored c.append-2.new.self c.change.new.self media in
-    let given = said c.fetch.result _ (sym c.is_err-2.ensures.value ∙ c.if-is_err-4.false) c.fetch.ensures.gave
-    (formatted p) in
-    subst (λ (v : EngineView g.row.S.Denot g.row.D.Denot). Asks gave wrote grew (page_asked v.state p) v new) c.self.view_is
-    (asks_page stored gave wrote grew it.log it.pool c.make_room-else-is_err-2.new.self media new p
+    let new = engine_view store.stored c.append-2.new.self c.change.new.self media in
+    let ok = sym c.is_err-2.ensures.value ∙ c.if-is_err-4.false in
+    subst (λ (v : EngineView g.row.S.Denot g.row.D.Denot).
+    AsksStore store.gave store.wrote store.grew store.failures (page_asked v.state p) v (Ok tt) new) c.self.view_is
+    (page_came store.stored store.gave store.wrote store.grew store.failures it.log it.pool
+    c.make_room-else-is_err-2.new.self media new p c.fetch.new.self.store
     (omega (arith, c.requires.within, ap (λ v. volume_pages v.state) c.self.view_is, c.self.invariant.pool_of_log.pages))
-    (sym c.is_resident.ensures ∙ c.if-is_resident.false) c.make_room-else-is_err-2.ensures.same
-    (subst (λ (x : g.row.S.Denot). gave c.make_room-else-is_err-2.new.self.store p
-    (Ok (get_or (stored c.make_room-else-is_err-2.new.self.store) p (formatted p))) x) (sym c.change.ensures.store) given))
+    (sym c.is_resident.ensures ∙ c.if-is_resident.false) c.make_room-else-is_err-2.ensures.same c.change.ensures.store tt
+    (said c.fetch.result _ ok c.fetch.ensures.gave (formatted p)) (said c.fetch.result _ ok c.fetch.ensures.no_failure))
 
-pub returns-then-is_err-4-clause-failed : goal.returns-then-is_err-4-clause-failed
-returns-then-is_err-4-clause-failed g c = λ by_store.
+pub returns-then-is_err-4-clause-store : goal.returns-then-is_err-4-clause-store
+returns-then-is_err-4-clause-store g c =
     let it = c.self.inside in
-    let stored = g.S.PageStore.stored in
-    let gave = g.S.PageStore.gave in
-    let wrote = g.S.PageStore.wrote in
-    let grew = g.S.PageStore.grew in
+    let store = g.S.PageStore in
     let media = media_view it.master it.session it.vault.copies it.returns.made in
     let p = c.args.page in
-    let new = engine_view stored c.make_room.new.self c.fetch.new.self media in
-    let failed = why_failed c.fetch.result _ (sym c.is_err-2.ensures.value ∙ c.if-is_err-4.true) c.fetch.ensures.failed in
-    subst (λ (v : EngineView g.row.S.Denot g.row.D.Denot). FailsAsking gave wrote grew (page_asked v.state p) v new)
-    c.self.view_is
-    (fails_asking stored gave wrote grew it.log it.pool c.make_room-else-is_err-2.new.self media new p
+    let new = engine_view store.stored c.make_room.new.self c.fetch.new.self media in
+    let err = sym c.is_err-2.ensures.value ∙ c.if-is_err-4.true in
+    subst (λ (v : EngineView g.row.S.Denot g.row.D.Denot).
+    AsksStore store.gave store.wrote store.grew store.failures (page_asked v.state p) v (Err StoreFault) new) c.self.view_is
+    (page_failed store.stored store.gave store.wrote store.grew store.failures it.log it.pool
+    c.make_room-else-is_err-2.new.self media new p c.fetch.new.self.store
     (omega (arith, c.requires.within, ap (λ v. volume_pages v.state) c.self.view_is, c.self.invariant.pool_of_log.pages))
-    (sym c.is_resident.ensures ∙ c.if-is_resident.false) c.make_room-else-is_err-2.ensures.same failed)
+    (sym c.is_resident.ensures ∙ c.if-is_resident.false) c.make_room-else-is_err-2.ensures.same refl
+    (why_failed c.fetch.result _ err c.fetch.ensures.failed) (failing c.fetch.result _ err c.fetch.ensures.failure))

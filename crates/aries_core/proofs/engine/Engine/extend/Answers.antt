@@ -1,5 +1,5 @@
 use Rattle.std.proofs.Common.{◌≡◌, ℕ, ◌≤◌, true, false, [], ◌∷◌, length, refl, sym, ap, subst, ◌∙◌, arith}
-use Rattle.std.specs.Prelude.{None, Result, Ok, Err, OnErr, OnOk, is_err}
+use Rattle.std.specs.Prelude.{None, Result, Ok, Err, is_err}
 use Rattle.std.proofs.lemmas.List.{length-take}
 use Rattle.log_records.specs.declared.record.Record.TheVariants.{Extend}
 use Rattle.log_records.specs.Log.{Log, lsn_of, with_next}
@@ -11,20 +11,15 @@ use Rattle.engine_rules.specs.EngineState.{EngineState, EngineView, IsConsistent
 use Rattle.aries_core.specs.OpenCkpt.{media_view}
 use Rattle.engine_rules.specs.Refusal.{refusal}
 use Rattle.engine_rules.specs.Step.{Step}
+use Rattle.engine_rules.specs.Asked.{to_grow}
+use Rattle.engine_rules.specs.Uses.{AsksStore}
+use Rattle.aries_core.proofs.Asks.{failing, said}
+use Rattle.aries_core.proofs.Uses.{was_asked}
 use Rattle.aries_core.proofs.Extends.{extended_is, kept_extended, unextended_is}
 use Rattle.engine_rules.proofs.Public.{extended, extended_fit}
 use Rattle.engine_rules.proofs.Public.{extend_passes}
 use Rattle.aries_core.proofs.engine.Engine.extend.Given as given
 use Rattle.aries_core.proofs.engine.Engine.extend.Goals as goal
-
--- what an answer that is no `Err` says, and what one that is says
-said : {T E : Type 0} (r : Result T E) (P : Type 0) → is_err r ≡ false → OnOk r P → P
-said (Ok x) P ok h = h
-said (Err e) P ok h = cc
-
-failed : {T E : Type 0} (r : Result T E) (P : Type 0) → is_err r ≡ true → OnErr r P → P
-failed (Ok x) P err h = cc
-failed (Err e) P err h = h
 
 is_done : (r : Result Unit StoreFault) → is_err r ≡ false → r ≡ Ok tt
 is_done (Ok done) ok = refl
@@ -46,11 +41,11 @@ invariant_of-self-then-is_err-2 g c =
     ) in
     let state = unextended_is stored it.log c.make_room.new.self it.pool c.grow.new.self media
     c.make_room.ensures.same c.make_room.ensures.forced_end enough c.grow.ensures.stored
-    (failed c.grow.result _ err c.grow.ensures.stays) in
+    (failing c.grow.result _ err c.grow.ensures.stays) in
     subst (λ (t : EngineState). IsConsistent stored t it.txns c.grow.new.self media) (sym state) (record {
       fit = kept.fit;
       table_of_log = kept.table_of_log;
-      pool_of_log = failed c.grow.result _ err c.grow.ensures.kept it.log.log kept.pool_of_log;
+      pool_of_log = failing c.grow.result _ err c.grow.ensures.kept it.log.log kept.pool_of_log;
       session_of_log = kept.session_of_log;
       returns_of_log = kept.returns_of_log;
     })
@@ -120,10 +115,17 @@ returns-clause-step g c =
     (media_view it.master it.session it.vault.copies it.returns.made)).state) c.self.view_is
     (is_free g c, ap answer.Logged (lsn_is g c), state_after g c)
 
-pub returns-clause-asked : goal.returns-clause-asked
-returns-clause-asked g c =
+pub returns-clause-store : goal.returns-clause-store
+returns-clause-store g c =
+    let it = c.self.inside in
+    let store = g.S.PageStore in
+    let media = media_view it.master it.session it.vault.copies it.returns.made in
     let ok = sym c.is_err-2.ensures.value ∙ c.if-is_err-2.false in
+    let new = engine_view store.stored c.append.new.self c.grow.new.self media in
     subst (λ (v : EngineView g.row.S.Denot g.row.D.Denot).
-    g.S.PageStore.grew v.store c.args.count (Ok tt) c.grow.new.self.store) c.self.view_is
-    (subst (λ (r : Result Unit StoreFault). g.S.PageStore.grew c.self.inside.pool.store c.args.count r c.grow.new.self.store)
-    (is_done c.grow.result ok) c.grow.ensures.grew)
+    AsksStore store.gave store.wrote store.grew store.failures (to_grow c.args.count) v (Ok c.end-lsn.result) new)
+    c.self.view_is
+    (was_asked store.gave store.wrote store.grew store.failures (to_grow c.args.count)
+    (engine_view store.stored it.log it.pool media) new c.end-lsn.result
+    (subst (λ (r : Result Unit StoreFault). store.grew it.pool.store c.args.count r c.grow.new.self.store)
+    (is_done c.grow.result ok) c.grow.ensures.grew) (said c.grow.result _ ok c.grow.ensures.no_failure))

@@ -1,39 +1,31 @@
 use Rattle.std.proofs.Common.{◌≡◌, ◌∙◌, ◌<◌, ◌≤◌, ℕ, List, length, max, take, ap, subst, sym, arith}
-use Rattle.std.specs.Prelude.{IfErr, None, Result, Ok, Err, OnErr, OnOk, is_err, false, true}
+use Rattle.std.specs.Prelude.{None, Result, Ok, Err, OnOk, is_err, false}
 use Rattle.page_core.specs.declared.numbers.Lsn.{Lsn}
 use Rattle.page_core.specs.declared.page.Page.{Page}
 use Rattle.log_records.specs.declared.record.Record.{Record}
 use Rattle.log_records.specs.Coverage.{IsPast}
 use Rattle.log_records.specs.Image.{image}
 use Rattle.log_records.proofs.Public.{number-image}
-use Rattle.log_store.specs.Stores.{ForceFails, Forced}
 use Rattle.log_store.specs.WrittenLog.{WrittenLog, end_up_to}
 use Rattle.engine_calls.specs.declared.event.Answer.TheVariants as answer
 use Rattle.engine_calls.specs.declared.event.Event.TheVariants as event
 use Rattle.engine_calls.specs.declared.refusal.Refusal.{Refusal}
 use Rattle.engine_rules.specs.EngineState.{EngineView, engine_view, log_of, page_now}
 use Rattle.engine_rules.specs.Refusal.{refusal}
-use Rattle.engine_rules.specs.Step.{Forces, IsByStore, Step, reply_of}
-use Rattle.engine_rules.specs.Asked.{Asks, FailsAsking, asked}
+use Rattle.engine_rules.specs.Step.{Step, reply_of}
+use Rattle.engine_rules.specs.Asked.{asked}
+use Rattle.engine_rules.specs.Uses.{AsksStore, ForcesDevice}
 use Rattle.page_store.specs.declared.store.StoreFault.{StoreFault}
 use Rattle.aries_core.specs.OpenCkpt.{media_view}
 use Rattle.engine_rules.proofs.Public.{repair_passes}
 use Rattle.aries_core.proofs.Repairs.{done, half_done, not_forced}
 use Rattle.engine_calls.specs.declared.refusal.Refusal.TheVariants.{LogFault}
+use Rattle.aries_core.proofs.Asks.{failing, said}
+use Rattle.aries_core.proofs.Uses.{asked_in_vain, force_failed, was_asked, was_forced, was_forced_first}
 use Rattle.aries_core.proofs.WriteCalls.{Called, force_kept}
 use Rattle.aries_core.proofs.engine.Engine.repair.Goals.{in-Ok, in-Err}
 use Rattle.aries_core.proofs.engine.Engine.repair.Given as given
 use Rattle.aries_core.proofs.engine.Engine.repair.Goals as goal
-
--- what an answer that is no `Err` says
-said : {T E : Type 0} (r : Result T E) (P : Type 0) → is_err r ≡ false → OnOk r P → P
-said (Ok x) P ok h = h
-said (Err e) P ok h = cc
-
--- and what one says that is
-failing : {T E : Type 0} (r : Result T E) (P : Type 0) → is_err r ≡ true → OnErr r P → P
-failing (Ok x) P err h = cc
-failing (Err e) P err h = h
 
 -- the page that is rolled forward is the page as it is now
 numbered : (rs : List Record) (p : ℕ) (page : Page) → IsPast rs p page → page.number ≡ p
@@ -154,86 +146,82 @@ returns-clause-step g c =
     (media_view c.self.inside.master c.self.inside.session c.self.inside.vault.copies c.self.inside.returns.made)).state)
     c.self.view_is (call g c).step
 
-pub returns-clause-asked : goal.returns-clause-asked
-returns-clause-asked g c =
+pub returns-clause-store : goal.returns-clause-store
+returns-clause-store g c =
     let it = c.self.inside in
-    let stored = g.S.PageStore.stored in
-    let gave = g.S.PageStore.gave in
-    let wrote = g.S.PageStore.wrote in
-    let grew = g.S.PageStore.grew in
+    let store = g.S.PageStore in
     let media = media_view it.master it.session it.vault.copies it.returns.made in
     let p = c.args.page in
-    let now = engine_view stored it.log it.pool media in
     let copy = c.args.copy in
+    let now = engine_view store.stored it.log it.pool media in
     let q = c.roll_forward.new.page in
-    let new = engine_view stored c.force_to.new.self c.repair.new.self media in
+    let new = engine_view store.stored c.force_to.new.self c.repair.new.self media in
     let past = subst (λ (v : EngineView g.row.S.Denot g.row.D.Denot). IsPast v.state.log p c.in_ok-rebuilt.rebuilt)
     (sym c.self.view_is) c.in_ok-rebuilt.ensures.past in
     let same : q ≡ page_now now.state p =
     rolled_is it.log.log.records p c.in_ok-rebuilt.rebuilt q c.roll_forward.result
     (sym c.is_err.ensures.value ∙ c.if-is_err.false) past c.roll_forward.ensures.image in
-    subst (λ (v : EngineView g.row.S.Denot g.row.D.Denot). OnOk c.match-repair.result
-    (Asks gave wrote grew (asked v.state (event.Repair copy p)) v new)) c.self.view_is
+    subst (λ (v : EngineView g.row.S.Denot g.row.D.Denot).
+    AsksStore store.gave store.wrote store.grew store.failures (asked v.state (event.Repair copy p)) v c.match-repair.result
+    new) c.self.view_is
     (elim c.match-repair.branch [
       | in-Ok w ↦
-          subst (λ (r : Result Lsn Refusal). OnOk r (Asks gave wrote grew (asked now.state (event.Repair copy p)) now new))
-          (sym w.result-is)
-          (subst (λ (x : Page). wrote it.pool.store p x (Ok tt) c.repair.new.self.store) same w.in-Ok.ensures.wrote)
+          subst (λ (r : Result Lsn Refusal). AsksStore store.gave store.wrote store.grew store.failures
+          (asked now.state (event.Repair copy p)) now r new) (sym w.result-is)
+          (was_asked store.gave store.wrote store.grew store.failures (asked now.state (event.Repair copy p)) now new _
+          (subst (λ (x : Page). store.wrote it.pool.store p x (Ok tt) c.repair.new.self.store) same w.in-Ok.ensures.wrote)
+          w.in-Ok.ensures.no_failure)
       | in-Err w ↦
-          subst (λ (r : Result Lsn Refusal). OnOk r (Asks gave wrote grew (asked now.state (event.Repair copy p)) now new))
-          (sym w.result-is) tt
+          subst (λ (r : Result Lsn Refusal). AsksStore store.gave store.wrote store.grew store.failures
+          (asked now.state (event.Repair copy p)) now r new) (sym w.result-is)
+          (asked_in_vain store.gave store.wrote store.grew store.failures (asked now.state (event.Repair copy p)) now new
+          (subst (λ (x : Page). (why : StoreFault) × store.wrote it.pool.store p x (Err why) c.repair.new.self.store)
+          same (_, w.in-Err.ensures.wrote)) w.in-Err.ensures.failure)
     ])
 
-pub returns-clause-failed : goal.returns-clause-failed
-returns-clause-failed g c =
+pub returns-then-is_err-2-clause-device : goal.returns-then-is_err-2-clause-device
+returns-then-is_err-2-clause-device g c =
     let it = c.self.inside in
-    let stored = g.S.PageStore.stored in
-    let gave = g.S.PageStore.gave in
-    let wrote = g.S.PageStore.wrote in
-    let grew = g.S.PageStore.grew in
+    let device = g.D.LogDevice in
     let media = media_view it.master it.session it.vault.copies it.returns.made in
-    let p = c.args.page in
-    let now = engine_view stored it.log it.pool media in
-    let copy = c.args.copy in
-    let q = c.roll_forward.new.page in
+    let err = sym c.is_err-2.ensures.value ∙ c.if-is_err-2.true in
+    let log = c.roll_forward.new.self in
+    let new = engine_view g.S.PageStore.stored c.force_to.new.self it.pool media in
+    subst (λ (v : EngineView g.row.S.Denot g.row.D.Denot).
+    ForcesDevice device.called device.synced device.failures device.fails_from v (Err LogFault) new) c.self.view_is
+    (subst (λ (w : WrittenLog g.row.D.Denot).
+    ForcesDevice device.called device.synced device.failures device.fails_from
+    (engine_view g.S.PageStore.stored w it.pool media) (Err LogFault) new) c.roll_forward.ensures.same
+    (force_failed device.called device.synced device.failures device.fails_from g.S.PageStore.stored log
+    c.force_to.new.self it.pool media _ c.force_to.ensures.same c.force_to.ensures.same_bound
+    (failing c.force_to.result _ err c.force_to.ensures.last_call) (failing c.force_to.result _ err c.force_to.ensures.failure)
+    (failing c.force_to.result _ err c.force_to.ensures.past_bound)))
+
+pub returns-clause-device : goal.returns-clause-device
+returns-clause-device g c =
+    let it = c.self.inside in
+    let device = g.D.LogDevice in
+    let stored = g.S.PageStore.stored in
+    let media = media_view it.master it.session it.vault.copies it.returns.made in
+    let ok = sym c.is_err-2.ensures.value ∙ c.if-is_err-2.false in
+    let old = engine_view stored c.roll_forward.new.self it.pool media in
     let new = engine_view stored c.force_to.new.self c.repair.new.self media in
-    let past = subst (λ (v : EngineView g.row.S.Denot g.row.D.Denot). IsPast v.state.log p c.in_ok-rebuilt.rebuilt)
-    (sym c.self.view_is) c.in_ok-rebuilt.ensures.past in
-    let same : q ≡ page_now now.state p =
-    rolled_is it.log.log.records p c.in_ok-rebuilt.rebuilt q c.roll_forward.result
-    (sym c.is_err.ensures.value ∙ c.if-is_err.false) past c.roll_forward.ensures.image in
-    subst (λ (v : EngineView g.row.S.Denot g.row.D.Denot). IfErr c.match-repair.result (λ why. IsByStore why
-    → FailsAsking gave wrote grew (asked v.state (event.Repair copy p)) v new)) c.self.view_is
+    let forced = said c.force_to.result _ ok c.force_to.ensures.called in
+    let quiet = said c.force_to.result _ ok c.force_to.ensures.no_failure in
+    subst (λ (v : EngineView g.row.S.Denot g.row.D.Denot).
+    ForcesDevice device.called device.synced device.failures device.fails_from v c.match-repair.result new) c.self.view_is
+    (subst (λ (w : WrittenLog g.row.D.Denot).
+    ForcesDevice device.called device.synced device.failures device.fails_from
+    (engine_view stored w it.pool media) c.match-repair.result new) c.roll_forward.ensures.same
     (elim c.match-repair.branch [
       | in-Ok w ↦
-          subst (λ (r : Result Lsn Refusal). IfErr r (λ why. IsByStore why
-          → FailsAsking gave wrote grew (asked now.state (event.Repair copy p)) now new)) (sym w.result-is) tt
+          subst (λ (r : Result Lsn Refusal).
+          ForcesDevice device.called device.synced device.failures device.fails_from old r new) (sym w.result-is)
+          (was_forced device.called device.synced device.failures device.fails_from old new c.force_to.ensures.same_bound _
+          forced quiet)
       | in-Err w ↦
-          subst (λ (r : Result Lsn Refusal). IfErr r (λ why. IsByStore why
-          → FailsAsking gave wrote grew (asked now.state (event.Repair copy p)) now new)) (sym w.result-is)
-          (λ by_store. subst (λ (x : Page). (why : StoreFault) × wrote it.pool.store p x (Err why) c.repair.new.self.store)
-          same (_, w.in-Err.ensures.wrote))
-    ])
-
-pub returns-then-is_err-2-clause-last_call : goal.returns-then-is_err-2-clause-last_call
-returns-then-is_err-2-clause-last_call g c =
-    let fails = failing c.force_to.result _ (sym c.is_err-2.ensures.value ∙ c.if-is_err-2.true)
-    c.force_to.ensures.last_call in
-    let of_log = subst (λ (w : WrittenLog g.row.D.Denot).
-    ForceFails g.D.LogDevice.called g.D.LogDevice.synced w c.force_to.new.self) c.roll_forward.ensures.same fails in
-    rw (← c.self.view_is) (λ (u : Unit {0}). of_log)
-
-if_err : {T E : Type 0} (r : Result T E) (Q : E → Type 0) (P : Type 0) → P → IfErr r (λ why. Q why → P)
-if_err (Ok x) Q P h = tt
-if_err (Err e) Q P h = λ q. h
-
-pub returns-clause-forced_first : goal.returns-clause-forced_first
-returns-clause-forced_first g c =
-    let forced = subst (λ (w : WrittenLog g.row.D.Denot). Forced g.D.LogDevice.called g.D.LogDevice.synced w c.force_to.new.self)
-    c.roll_forward.ensures.same
-    (said c.force_to.result _ (sym c.is_err-2.ensures.value ∙ c.if-is_err-2.false) c.force_to.ensures.called) in
-    if_err c.match-repair.result IsByStore _
-    (subst (λ (v : EngineView g.row.S.Denot g.row.D.Denot). Forces g.D.LogDevice.called g.D.LogDevice.synced v
-    (engine_view g.S.PageStore.stored c.force_to.new.self c.repair.new.self
-    (media_view c.self.inside.master c.self.inside.session c.self.inside.vault.copies c.self.inside.returns.made)))
-    c.self.view_is forced)
+          subst (λ (r : Result Lsn Refusal).
+          ForcesDevice device.called device.synced device.failures device.fails_from old r new) (sym w.result-is)
+          (was_forced_first device.called device.synced device.failures device.fails_from old new c.force_to.ensures.same_bound
+          forced quiet)
+    ]))

@@ -1,6 +1,6 @@
 use Rattle.engine_rules.specs.EngineState.{appended, with_page}
 use Rattle.std.proofs.Common.{◌≡◌, ◌<◌, ◌++◌, ◌∷◌, [], ℕ, length, get_or, refl, sym, ap, subst, ◌∙◌, arith, false, true}
-use Rattle.std.specs.Prelude.{Result, Ok, Err, OnErr, OnOk, is_err}
+use Rattle.std.specs.Prelude.{Ok, Err}
 use Rattle.page_core.specs.declared.page.Page.{Page}
 use Rattle.page_core.specs.Page.{formatted}
 use Rattle.buffer_pool.specs.Frames.{fetched, is_resident}
@@ -15,8 +15,10 @@ use Rattle.engine_rules.specs.Call.{Calls}
 use Rattle.engine_rules.specs.EngineState.{EngineState, EngineView, IsConsistent, end, engine_view, log_of}
 use Rattle.aries_core.specs.OpenCkpt.{media_view}
 use Rattle.aries_core.proofs.Appends.{after_fetch, appended_is, valid_with}
-use Rattle.engine_rules.specs.Asked.{Asks, FailsAsking, page_asked}
-use Rattle.aries_core.proofs.Asks.{asks_page, fails_asking, why_failed}
+use Rattle.engine_calls.specs.declared.refusal.Refusal.TheVariants.{StoreFault}
+use Rattle.engine_rules.specs.Asked.{page_asked}
+use Rattle.engine_rules.specs.Uses.{AsksStore}
+use Rattle.aries_core.proofs.Asks.{failing, page_came, page_failed, said, why_failed}
 use Rattle.engine_rules.proofs.Public.{Comes, comes, comes_few}
 use Rattle.engine_rules.proofs.Public.{slot_passes}
 use Rattle.aries_core.proofs.PoolStates.{fetched_is, stayed_is}
@@ -30,15 +32,6 @@ use Rattle.engine_rules.specs.EngineState.{volume_pages}
 use Rattle.txn_table.specs.TxnTable.{IsAhead}
 use Rattle.aries_core.proofs.engine.Engine.update_fetching.Goals as goal
 use Rattle.aries_core.proofs.Returned.{returns_stay}
-
--- what an answer that is no `Err` says, and what one says that is
-said : {T E : Type 0} (r : Result T E) (P : Type 0) → is_err r ≡ false → OnOk r P → P
-said (Ok x) P ok h = h
-said (Err e) P ok h = cc
-
-failed : {T E : Type 0} (r : Result T E) (P : Type 0) → is_err r ≡ true → OnErr r P → P
-failed (Ok x) P err h = cc
-failed (Err e) P err h = h
 
 pub note_ahead-requires : goal.note_ahead-requires
 note_ahead-requires g c =
@@ -127,7 +120,7 @@ invariant_of-self-then-is_err-4 g c =
     let of_log = c.fetch.ensures.kept (log_of s) of_room in
     let table = c.self.invariant.table_of_log in
     let same = c.make_room-else-is_err.ensures.same in
-    let stays = failed c.fetch.result _ (sym c.is_err-3.ensures.value ∙ c.if-is_err-4.true) c.fetch.ensures.stays in
+    let stays = failing c.fetch.result _ (sym c.is_err-3.ensures.value ∙ c.if-is_err-4.true) c.fetch.ensures.stays in
     let state = stayed_is stored it.log c.make_room.new.self it.pool c.fetch.new.self media c.make_room.ensures.same
     c.make_room.ensures.forced_end
     (c.fetch.ensures.stored ∙ ap (λ (v : PoolView g.row.S.Denot). stored v.store) same)
@@ -367,57 +360,52 @@ invariant_of-self-2 g c =
     of_log settled (c.change.ensures.kept (log_of s) of_log (valid_with s next fit comes_next))
     (c.self.invariant.returns_of_log ∙ sym (returns_stay s.log next refl)) grown
 
-pub returns-clause-asked : goal.returns-clause-asked
-returns-clause-asked g c =
+pub returns-clause-store : goal.returns-clause-store
+returns-clause-store g c =
     let it = c.self.inside in
-    let stored = g.S.PageStore.stored in
-    let gave = g.S.PageStore.gave in
-    let wrote = g.S.PageStore.wrote in
-    let grew = g.S.PageStore.grew in
+    let store = g.S.PageStore in
     let media = media_view it.master it.session it.vault.copies it.returns.made in
     let p = c.args.page in
     let absent : is_resident it.pool.resident p ≡ false =
     subst (λ (v : EngineView g.row.S.Denot g.row.D.Denot). is_resident v.state.resident p ≡ false) (sym c.self.view_is)
     c.requires.absent in
-    let new = engine_view stored c.append.new.self c.change.new.self media in
-    let given = said c.fetch.result _ (sym c.is_err-3.ensures.value ∙ c.if-is_err-4.false) c.fetch.ensures.gave
-    (formatted p) in
-    subst (λ (v : EngineView g.row.S.Denot g.row.D.Denot). Asks gave wrote grew (page_asked v.state p) v new) c.self.view_is
-    (asks_page stored gave wrote grew it.log it.pool c.make_room-else-is_err.new.self media new p
-    (omega (
-      arith,
-      (slot_passes c.args.self.now.state p c.args.slot c.requires.place).within,
-      ap (λ (v : EngineView g.row.S.Denot g.row.D.Denot). volume_pages v.state) c.self.view_is,
-      c.self.invariant.pool_of_log.pages,
-    )) absent
-    c.make_room-else-is_err.ensures.same
-    (subst (λ (x : g.row.S.Denot). gave c.make_room-else-is_err.new.self.store p
-    (Ok (get_or (stored c.make_room-else-is_err.new.self.store) p (formatted p))) x) (sym c.change.ensures.store) given))
-
-pub returns-then-is_err-4-clause-failed : goal.returns-then-is_err-4-clause-failed
-returns-then-is_err-4-clause-failed g c = λ by_store.
-    let it = c.self.inside in
-    let stored = g.S.PageStore.stored in
-    let gave = g.S.PageStore.gave in
-    let wrote = g.S.PageStore.wrote in
-    let grew = g.S.PageStore.grew in
-    let media = media_view it.master it.session it.vault.copies it.returns.made in
-    let p = c.args.page in
-    let absent : is_resident it.pool.resident p ≡ false =
-    subst (λ (v : EngineView g.row.S.Denot g.row.D.Denot). is_resident v.state.resident p ≡ false) (sym c.self.view_is)
-    c.requires.absent in
-    let new = engine_view stored c.make_room.new.self c.fetch.new.self media in
-    let failed = why_failed c.fetch.result _ (sym c.is_err-3.ensures.value ∙ c.if-is_err-4.true) c.fetch.ensures.failed in
-    subst (λ (v : EngineView g.row.S.Denot g.row.D.Denot). FailsAsking gave wrote grew (page_asked v.state p) v new)
+    let new = engine_view store.stored c.append.new.self c.change.new.self media in
+    let ok = sym c.is_err-3.ensures.value ∙ c.if-is_err-4.false in
+    subst (λ (v : EngineView g.row.S.Denot g.row.D.Denot).
+    AsksStore store.gave store.wrote store.grew store.failures (page_asked v.state p) v (Ok c.end-lsn.result) new)
     c.self.view_is
-    (fails_asking stored gave wrote grew it.log it.pool c.make_room-else-is_err.new.self media new p
+    (page_came store.stored store.gave store.wrote store.grew store.failures it.log it.pool
+    c.make_room-else-is_err.new.self media new p c.fetch.new.self.store
     (omega (
       arith,
       (slot_passes c.args.self.now.state p c.args.slot c.requires.place).within,
       ap (λ (v : EngineView g.row.S.Denot g.row.D.Denot). volume_pages v.state) c.self.view_is,
       c.self.invariant.pool_of_log.pages,
-    )) absent
-    c.make_room-else-is_err.ensures.same failed)
+    )) absent c.make_room-else-is_err.ensures.same c.change.ensures.store c.end-lsn.result
+    (said c.fetch.result _ ok c.fetch.ensures.gave (formatted p)) (said c.fetch.result _ ok c.fetch.ensures.no_failure))
+
+pub returns-then-is_err-4-clause-store : goal.returns-then-is_err-4-clause-store
+returns-then-is_err-4-clause-store g c =
+    let it = c.self.inside in
+    let store = g.S.PageStore in
+    let media = media_view it.master it.session it.vault.copies it.returns.made in
+    let p = c.args.page in
+    let absent : is_resident it.pool.resident p ≡ false =
+    subst (λ (v : EngineView g.row.S.Denot g.row.D.Denot). is_resident v.state.resident p ≡ false) (sym c.self.view_is)
+    c.requires.absent in
+    let new = engine_view store.stored c.make_room.new.self c.fetch.new.self media in
+    let err = sym c.is_err-3.ensures.value ∙ c.if-is_err-4.true in
+    subst (λ (v : EngineView g.row.S.Denot g.row.D.Denot).
+    AsksStore store.gave store.wrote store.grew store.failures (page_asked v.state p) v (Err StoreFault) new) c.self.view_is
+    (page_failed store.stored store.gave store.wrote store.grew store.failures it.log it.pool
+    c.make_room-else-is_err.new.self media new p c.fetch.new.self.store
+    (omega (
+      arith,
+      (slot_passes c.args.self.now.state p c.args.slot c.requires.place).within,
+      ap (λ (v : EngineView g.row.S.Denot g.row.D.Denot). volume_pages v.state) c.self.view_is,
+      c.self.invariant.pool_of_log.pages,
+    )) absent c.make_room-else-is_err.ensures.same refl
+    (why_failed c.fetch.result _ err c.fetch.ensures.failed) (failing c.fetch.result _ err c.fetch.ensures.failure))
 
 pub returns-clause-ok : goal.returns-clause-ok
 returns-clause-ok g c =

@@ -1,16 +1,18 @@
 use Rattle.std.proofs.Common.{◌≡◌, ◌<◌, length, sym, subst, arith}
-use Rattle.std.specs.Prelude.{IfErr, None, OnOk, Result}
+use Rattle.std.specs.Prelude.{None, Result}
 use Rattle.page_core.specs.declared.numbers.Lsn.{Lsn}
 use Rattle.engine_calls.specs.declared.event.Answer.TheVariants as answer
 use Rattle.engine_calls.specs.declared.event.Event.TheVariants as event
 use Rattle.engine_calls.specs.declared.refusal.Refusal.{Refusal}
 use Rattle.engine_rules.specs.EngineState.{EngineView, engine_view, log_of}
 use Rattle.engine_rules.specs.Refusal.{refusal}
-use Rattle.engine_rules.specs.Step.{IsByStore, Step, reply_of}
-use Rattle.engine_rules.specs.Asked.{Asks, FailsAsking, asked}
+use Rattle.engine_rules.specs.Step.{Step, reply_of}
+use Rattle.engine_rules.specs.Asked.{asked}
+use Rattle.engine_rules.specs.Uses.{AsksStore}
 use Rattle.aries_core.proofs.Asks.{asks_to_store, fails_to_store}
 use Rattle.aries_core.specs.OpenCkpt.{media_view}
 use Rattle.engine_rules.proofs.Public.{write_end_passes}
+use Rattle.aries_core.proofs.Uses.{asked_in_vain, was_asked}
 use Rattle.aries_core.proofs.WriteCalls.{Called, ended, repeated}
 use Rattle.aries_core.proofs.engine.Engine.write_end.Goals.{in-Ok, in-Err}
 use Rattle.aries_core.proofs.engine.Engine.write_end.Given as given
@@ -64,60 +66,34 @@ returns-clause-step g c =
     (media_view c.self.inside.master c.self.inside.session c.self.inside.vault.copies c.self.inside.returns.made)).state)
     c.self.view_is (call g c).step
 
-pub returns-clause-asked : goal.returns-clause-asked
-returns-clause-asked g c =
+pub returns-clause-store : goal.returns-clause-store
+returns-clause-store g c =
     let it = c.self.inside in
-    let stored = g.S.PageStore.stored in
-    let gave = g.S.PageStore.gave in
-    let wrote = g.S.PageStore.wrote in
-    let grew = g.S.PageStore.grew in
+    let store = g.S.PageStore in
     let media = media_view it.master it.session it.vault.copies it.returns.made in
     let p = c.args.page in
-    let now = engine_view stored it.log it.pool media in
-    let new = engine_view stored it.log c.write_end.new.self media in
+    let now = engine_view store.stored it.log it.pool media in
+    let new = engine_view store.stored it.log c.write_end.new.self media in
     let none : refusal now.state (event.WriteEnd p) ≡ None =
     subst (λ (v : EngineView g.row.S.Denot g.row.D.Denot). refusal v.state (event.WriteEnd p) ≡ None)
     (sym c.self.view_is) c.in_ok-find_writing.ensures.writing in
     let count = c.self.invariant.pool_of_log.pages in
     let below = (write_end_passes now.state p none).within in
     let within : p < length it.pool.states = omega arith in
-    subst (λ (v : EngineView g.row.S.Denot g.row.D.Denot). OnOk c.match-write_end.result
-    (Asks gave wrote grew (asked v.state (event.WriteEnd p)) v new)) c.self.view_is
+    subst (λ (v : EngineView g.row.S.Denot g.row.D.Denot).
+    AsksStore store.gave store.wrote store.grew store.failures (asked v.state (event.WriteEnd p)) v c.match-write_end.result
+    new) c.self.view_is
     (elim c.match-write_end.branch [
       | in-Ok w ↦
-          subst (λ (r : Result Lsn Refusal). OnOk r (Asks gave wrote grew (asked now.state (event.WriteEnd p)) now new))
-          (sym w.result-is)
-          (asks_to_store stored gave wrote grew it.log it.pool media new p none within w.in-Ok.ensures.wrote)
+          subst (λ (r : Result Lsn Refusal). AsksStore store.gave store.wrote store.grew store.failures
+          (asked now.state (event.WriteEnd p)) now r new) (sym w.result-is)
+          (was_asked store.gave store.wrote store.grew store.failures (asked now.state (event.WriteEnd p)) now new w.in-Ok.lsn
+          (asks_to_store store.stored store.gave store.wrote store.grew it.log it.pool media new p none within
+          w.in-Ok.ensures.wrote) w.in-Ok.ensures.no_failure)
       | in-Err w ↦
-          subst (λ (r : Result Lsn Refusal). OnOk r (Asks gave wrote grew (asked now.state (event.WriteEnd p)) now new))
-          (sym w.result-is) tt
-    ])
-
-pub returns-clause-failed : goal.returns-clause-failed
-returns-clause-failed g c =
-    let it = c.self.inside in
-    let stored = g.S.PageStore.stored in
-    let gave = g.S.PageStore.gave in
-    let wrote = g.S.PageStore.wrote in
-    let grew = g.S.PageStore.grew in
-    let media = media_view it.master it.session it.vault.copies it.returns.made in
-    let p = c.args.page in
-    let now = engine_view stored it.log it.pool media in
-    let new = engine_view stored it.log c.write_end.new.self media in
-    let none : refusal now.state (event.WriteEnd p) ≡ None =
-    subst (λ (v : EngineView g.row.S.Denot g.row.D.Denot). refusal v.state (event.WriteEnd p) ≡ None)
-    (sym c.self.view_is) c.in_ok-find_writing.ensures.writing in
-    let count = c.self.invariant.pool_of_log.pages in
-    let below = (write_end_passes now.state p none).within in
-    let within : p < length it.pool.states = omega arith in
-    subst (λ (v : EngineView g.row.S.Denot g.row.D.Denot). IfErr c.match-write_end.result (λ why. IsByStore why
-    → FailsAsking gave wrote grew (asked v.state (event.WriteEnd p)) v new)) c.self.view_is
-    (elim c.match-write_end.branch [
-      | in-Ok w ↦
-          subst (λ (r : Result Lsn Refusal). IfErr r (λ why. IsByStore why
-          → FailsAsking gave wrote grew (asked now.state (event.WriteEnd p)) now new)) (sym w.result-is) tt
-      | in-Err w ↦
-          subst (λ (r : Result Lsn Refusal). IfErr r (λ why. IsByStore why
-          → FailsAsking gave wrote grew (asked now.state (event.WriteEnd p)) now new)) (sym w.result-is)
-          (λ by_store. fails_to_store stored gave wrote grew it.log it.pool media new p none within _ w.in-Err.ensures.failed)
+          subst (λ (r : Result Lsn Refusal). AsksStore store.gave store.wrote store.grew store.failures
+          (asked now.state (event.WriteEnd p)) now r new) (sym w.result-is)
+          (asked_in_vain store.gave store.wrote store.grew store.failures (asked now.state (event.WriteEnd p)) now new
+          (fails_to_store store.stored store.gave store.wrote store.grew it.log it.pool media new p none within _
+          w.in-Err.ensures.failed) w.in-Err.ensures.failure)
     ])

@@ -1,0 +1,37 @@
+-- What a call of an engine does to its page store and to its log's device, whatever it answers.
+use Rattle.std.specs.Prelude.{ℕ, ◌≡◌, ◌<◌, ◌≤◌, Result, IfErr, OnOk}
+use Rattle.log_store.specs.Stores.{StoreCall, SyncCall}
+use Rattle.page_store.specs.Store.{GrowCall, ReadCall, WriteCall}
+use Rattle.engine_calls.specs.declared.refusal.Refusal.{Refusal}
+use Rattle.engine_rules.specs.Asked.{Asked, Asks, FailsAsking}
+use Rattle.engine_rules.specs.EngineState.{EngineView, end}
+use Rattle.engine_rules.specs.Step.{FailsForcing, Forces, IsByDevice, IsByStore}
+
+-- the store is called at most once, for what is asked of it: it does this where the call of the engine
+-- is answered, it fails where that is refused by the store, and else it is not called; and it has failed
+-- more often just where the call is refused by it
+pub record AsksStore {S D T : Type 0} (gave : ReadCall S) (wrote : WriteCall S) (grew : GrowCall S)
+    (failures : S → ℕ) (ask : Asked) (old : EngineView S D) (result : Result T Refusal)
+    (new : EngineView S D) : Type 0 where
+  pub asked : OnOk result (Asks gave wrote grew ask old new)
+  pub failed : IfErr result (λ why. IsByStore why → FailsAsking gave wrote grew ask old new)
+  pub refused : IfErr result (λ why. ¬ IsByStore why → new.store ≡ old.store)
+  pub no_failure : OnOk result (failures new.store ≡ failures old.store)
+  pub cause : IfErr result (λ why. IsByStore why → failures old.store < failures new.store)
+
+-- the device is called for the records that the call forces, one by one, and to sync them: these calls
+-- are all made where the call of the engine is answered or refused by the store, they end at the one
+-- that fails where that is refused by the device, and else none is made; and the device has failed more
+-- often just where the call is refused by it, at an offset that the log has reached
+pub record ForcesDevice {S D T : Type 0} (call : StoreCall D) (sync : SyncCall D)
+    (failures fails_from : D → ℕ) (old : EngineView S D) (result : Result T Refusal)
+    (new : EngineView S D) : Type 0 where
+  pub called : OnOk result (Forces call sync old new)
+  pub forced_first : IfErr result (λ why. IsByStore why → Forces call sync old new)
+  pub last_call : IfErr result (λ why. IsByDevice why → FailsForcing call sync old new)
+  pub refused : IfErr result (λ why. ¬ IsByDevice why → ¬ IsByStore why → new.device ≡ old.device)
+  pub no_failure : OnOk result (failures new.device ≡ failures old.device)
+  pub sound : IfErr result (λ why. ¬ IsByDevice why → failures new.device ≡ failures old.device)
+  pub cause : IfErr result (λ why. IsByDevice why → failures old.device < failures new.device)
+  pub same_bound : fails_from new.device ≡ fails_from old.device
+  pub past_bound : IfErr result (λ why. IsByDevice why → fails_from old.device ≤ end new.state)
