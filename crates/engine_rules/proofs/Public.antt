@@ -33,12 +33,11 @@ pub use Rattle.engine_rules.proofs.PageComes.{fetched_fit, needed_within, page_c
 -- Laws of stored pages, of steps and of whole runs.
 pub use Rattle.engine_rules.proofs.PageLaws.{written_of_run}
 -- A run that goes on by one step, and what its replies tell of the device.
-pub use Rattle.engine_rules.proofs.Plays.{Tells, by_device, by_store, call_on, left_sound}
-pub use Rattle.engine_rules.proofs.Plays.{plays_push, run_push, tells_push, within_push}
+pub use Rattle.engine_rules.proofs.Plays.{Tells, by_device, by_store, left_sound, plays_push}
+pub use Rattle.engine_rules.proofs.Plays.{run_push, tells_push, within_push}
 -- What an event that is not refused has passed.
-pub use Rattle.engine_rules.proofs.Refusals.{ckpt_begin_passes, ckpt_end_passes}
-pub use Rattle.engine_rules.proofs.Refusals.{commit_not_by_device, extend_passes, gather_passes}
-pub use Rattle.engine_rules.proofs.Refusals.{repair_passes, slot_passes, take_passes}
+pub use Rattle.engine_rules.proofs.Refusals.{ckpt_begin_passes, ckpt_end_passes, extend_passes}
+pub use Rattle.engine_rules.proofs.Refusals.{gather_passes, repair_passes, slot_passes, take_passes}
 pub use Rattle.engine_rules.proofs.Refusals.{write_begin_passes, write_end_passes}
 -- An engine that goes on where an older one was lost is fit.
 pub use Rattle.engine_rules.proofs.Resuming.{resumed_fit, resumed_is, session_for}
