@@ -21,7 +21,8 @@ use Rattle.log_store.specs.WrittenLog.{WrittenLog}
 use Rattle.fuzzy_ckpt.proofs.Public.{open_same}
 use Rattle.txn_table.specs.declared.returns.Return.{Return}
 use Rattle.txn_table.specs.Returns.{returns_of}
-use Rattle.engine_rules.specs.EngineState.{EngineState, IsFit, IsConsistent, MediaView, appended, engine_view, log_of}
+use Rattle.engine_rules.specs.EngineState.{EngineState, IsFit, appended, log_of}
+use Rattle.engine_rules.specs.EngineView.{IsConsistent, MediaView, engine_view}
 use Rattle.engine_rules.specs.EngineState.{with_page}
 use Rattle.engine_rules.specs.EngineState.{volume_pages}
 use Rattle.log_records.specs.declared.page_change.PageChange.{PageChange}

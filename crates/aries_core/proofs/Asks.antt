@@ -11,7 +11,7 @@ use Rattle.buffer_pool.specs.Pool.{PoolView, state_at}
 use Rattle.log_store.specs.WrittenLog.{WrittenLog}
 use Rattle.engine_calls.specs.declared.event.Event.TheVariants as event
 use Rattle.engine_rules.specs.Asked.{Asks, FailsAsking, a_page, asked, nothing, page_asked, to_store}
-use Rattle.engine_rules.specs.EngineState.{EngineView, MediaView, engine_view}
+use Rattle.engine_rules.specs.EngineView.{EngineView, MediaView, engine_view}
 use Rattle.engine_calls.specs.declared.refusal.Refusal.TheVariants as by
 use Rattle.engine_rules.specs.Refusal.{refusal}
 use Rattle.engine_rules.specs.Uses.{AsksStore}

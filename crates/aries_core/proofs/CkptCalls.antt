@@ -33,8 +33,10 @@ use Rattle.engine_calls.specs.declared.event.Event.{Event}
 use Rattle.engine_calls.specs.declared.event.Event.TheVariants as event
 use Rattle.engine_calls.specs.declared.refusal.Refusal.{Refusal}
 use Rattle.engine_calls.specs.declared.refusal.Refusal.TheVariants.{LogFault, OutOfMemory}
-use Rattle.engine_rules.specs.EngineState.{MediaView, EngineState, IsFit, IsConsistent, closed, effect, end, end_ckpt_record}
-use Rattle.engine_rules.specs.EngineState.{engine_view, forced_to, gather_effect, gathered_record, log_of, next_step}
+use Rattle.engine_rules.specs.EngineState.{EngineState, IsFit, closed, effect, end, end_ckpt_record}
+use Rattle.engine_rules.specs.EngineView.{MediaView, IsConsistent}
+use Rattle.engine_rules.specs.EngineState.{forced_to, gather_effect, gathered_record, log_of, next_step}
+use Rattle.engine_rules.specs.EngineView.{engine_view}
 use Rattle.engine_rules.specs.EngineState.{point_of}
 use Rattle.engine_calls.specs.EventFits.{EventFits}
 use Rattle.engine_rules.specs.Gather.{Left, is_done, left_of, none_left, pages_left, session_of, txns_left}

@@ -20,7 +20,8 @@ use Rattle.engine_calls.specs.declared.event.Answer.TheVariants as answer
 use Rattle.engine_calls.specs.declared.event.Event.{Event}
 use Rattle.engine_calls.specs.declared.event.Event.TheVariants as event
 use Rattle.engine_calls.specs.declared.refusal.Refusal.{Refusal}
-use Rattle.engine_rules.specs.EngineState.{EngineState, IsConsistent, MediaView, engine_view, stored_page}
+use Rattle.engine_rules.specs.EngineState.{EngineState, stored_page}
+use Rattle.engine_rules.specs.EngineView.{IsConsistent, MediaView, engine_view}
 use Rattle.engine_rules.specs.EngineState.{take_answer, with_copies}
 use Rattle.engine_calls.specs.EventFits.{EventFits}
 use Rattle.engine_rules.specs.Refusal.{refusal}

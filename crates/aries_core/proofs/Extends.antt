@@ -25,7 +25,8 @@ use Rattle.buffer_pool.proofs.Public.{none_changes}
 use Rattle.fuzzy_ckpt.proofs.Public.{open_grown}
 use Rattle.engine_calls.specs.declared.event.Event.TheVariants as event
 use Rattle.engine_calls.specs.declared.refusal.Refusal.TheVariants.{LogFull, NotLarger}
-use Rattle.engine_rules.specs.EngineState.{EngineState, IsConsistent, MediaView, end, engine_view, extend_record, log_of}
+use Rattle.engine_rules.specs.EngineState.{EngineState, end, extend_record, log_of}
+use Rattle.engine_rules.specs.EngineView.{IsConsistent, MediaView, engine_view}
 use Rattle.engine_rules.specs.EngineState.{volume_pages}
 use Rattle.engine_rules.specs.Refusal.{has_no_room, refusal}
 use Rattle.aries_core.proofs.Appends.{session_later}

@@ -24,7 +24,8 @@ use Rattle.log_store.specs.WrittenLog.{WrittenLog, end_up_to}
 use Rattle.copy_vault.specs.Vault.{CopyState, complete_refusal, state_of}
 use Rattle.engine_calls.specs.declared.event.Event.TheVariants as event
 use Rattle.engine_calls.specs.declared.refusal.Refusal.TheVariants.{NoWrite, NotDirty, PageOut, WriteBegun}
-use Rattle.engine_rules.specs.EngineState.{MediaView, EngineState, begun_write, ended_write, engine_view, forced_through}
+use Rattle.engine_rules.specs.EngineState.{EngineState, begun_write, ended_write, forced_through}
+use Rattle.engine_rules.specs.EngineView.{MediaView, engine_view}
 use Rattle.engine_rules.specs.EngineState.{image_of}
 use Rattle.engine_rules.specs.EngineState.{new_state, rec_lsn_of, stored_page, with_page, with_stored}
 use Rattle.engine_rules.specs.EngineState.{volume_pages}

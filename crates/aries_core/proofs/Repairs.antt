@@ -18,7 +18,8 @@ use Rattle.buffer_pool.specs.Pool.{IsPoolOf, PoolView, stored_as_now, state_at, 
 use Rattle.engine_calls.specs.declared.event.Answer.TheVariants as answer
 use Rattle.engine_calls.specs.declared.event.Event.TheVariants as event
 use Rattle.engine_calls.specs.declared.refusal.Refusal.TheVariants.{LogFault, StoreFault}
-use Rattle.engine_rules.specs.EngineState.{EngineState, IsFit, IsConsistent, MediaView, effect, engine_view, forced_through}
+use Rattle.engine_rules.specs.EngineState.{EngineState, IsFit, effect, forced_through}
+use Rattle.engine_rules.specs.EngineView.{IsConsistent, MediaView, engine_view}
 use Rattle.engine_rules.specs.EngineState.{log_of, with_stored}
 use Rattle.engine_rules.specs.EngineState.{volume_pages}
 use Rattle.engine_rules.specs.EngineState as engine

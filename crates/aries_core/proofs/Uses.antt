@@ -12,7 +12,8 @@ use Rattle.engine_calls.specs.declared.event.Event.{Event}
 use Rattle.engine_calls.specs.declared.refusal.Refusal.{Refusal}
 use Rattle.engine_calls.specs.declared.refusal.Refusal.TheVariants.{CommitUnsure, LogFault, StoreFault}
 use Rattle.engine_rules.specs.Asked.{Asked, Asks, FailsAsking, asked}
-use Rattle.engine_rules.specs.EngineState.{EngineView, MediaView, end, engine_view}
+use Rattle.engine_rules.specs.EngineState.{end}
+use Rattle.engine_rules.specs.EngineView.{EngineView, MediaView, engine_view}
 use Rattle.engine_rules.specs.Step.{FailsForcing, Forces, IsByDevice, IsByStore, Step, TellsOfFault}
 use Rattle.engine_rules.specs.Storage.{CallOn, CallsDevice, CallsStore, IsStoredOn, Storage}
 use Rattle.engine_rules.specs.Uses.{AsksStore, ForcesDevice}

@@ -16,7 +16,8 @@ use Rattle.engine_calls.specs.declared.event.Event.{Event}
 use Rattle.engine_calls.specs.declared.event.Event.TheVariants as event
 use Rattle.engine_calls.specs.declared.refusal.Refusal.{Refusal}
 use Rattle.engine_calls.specs.declared.refusal.Refusal.TheVariants.{StoreFault}
-use Rattle.engine_rules.specs.EngineState.{MediaView, IsConsistent, begun_write, effect, ended_write, engine_view}
+use Rattle.engine_rules.specs.EngineState.{begun_write, effect, ended_write}
+use Rattle.engine_rules.specs.EngineView.{MediaView, IsConsistent, engine_view}
 use Rattle.engine_rules.specs.EngineState.{forced_through}
 use Rattle.engine_calls.specs.EventFits.{EventFits}
 use Rattle.copy_coverage.proofs.Public.{copied_forced}

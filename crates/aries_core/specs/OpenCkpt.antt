@@ -7,7 +7,7 @@ use Rattle.fuzzy_ckpt.specs.Ckpt.{CkptView, Phase, gathered_ckpt, pages_ckpt, tx
 use Rattle.txn_table.specs.declared.returns.Return.{Return}
 use Rattle.aries_core.specs.declared.open_ckpt.OpenCkpt.{OpenCkpt}
 use Rattle.aries_core.specs.declared.open_ckpt.OpenCkpt.TheVariants.{Gathered, Pages, Txns}
-use Rattle.engine_rules.specs.EngineState.{MediaView}
+use Rattle.engine_rules.specs.EngineView.{MediaView}
 
 abbrev pub view_of : OpenCkpt → CkptView Phase
 view_of (Pages ckpt) = pages_ckpt ckpt

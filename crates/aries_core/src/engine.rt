@@ -56,7 +56,7 @@ pub struct Engine<S: PageStore, D: LogDevice> {
 }
 
 impl<S: PageStore, D: LogDevice> Model for Engine<S, D> {
-    ghost use Rattle.engine_rules.specs.EngineState.{EngineView, IsConsistent, engine_view};
+    ghost use Rattle.engine_rules.specs.EngineView.{EngineView, IsConsistent, engine_view};
     ghost use Rattle.aries_core.specs.OpenCkpt.{media_view};
 
     ghost Value = { EngineView S D };

@@ -14,7 +14,8 @@ use Rattle.log_records.specs.Log.{lsn_of}
 use Rattle.log_store.specs.Stores.{StoreCall, SyncCall, nothing}
 use Rattle.page_store.specs.Store.{GrowCall, ReadCall, WriteCall}
 use Rattle.engine_rules.specs.Asked.{Asks, FailsAsking, asked}
-use Rattle.engine_rules.specs.EngineState.{EngineState, EngineView, end, new_state}
+use Rattle.engine_rules.specs.EngineState.{EngineState, end, new_state}
+use Rattle.engine_rules.specs.EngineView.{EngineView}
 use Rattle.engine_rules.specs.Run.{Run}
 use Rattle.engine_calls.specs.declared.event.Event.TheVariants as event
 use Rattle.engine_rules.specs.Step.{FailsForcing, Forces, IsAtRepair, IsByDevice, IsByStore}

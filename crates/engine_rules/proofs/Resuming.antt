@@ -34,8 +34,9 @@ use Rattle.image_copies.specs.Copy.{CopyView}
 use Rattle.copy_vault.specs.Vault.{CopyState, complete, dropped, reading, state_of}
 use Rattle.copy_coverage.specs.Copied.{AreCopied, copy_in}
 use Rattle.copy_coverage.specs.Retired.{HasRoomForUndo}
-use Rattle.engine_rules.specs.EngineState.{HaveMaster, IsFit, IsGathering, IsMasterOf, MediaView}
-use Rattle.engine_rules.specs.EngineState.{engine_view}
+use Rattle.engine_rules.specs.EngineState.{HaveMaster, IsFit, IsGathering, IsMasterOf}
+use Rattle.engine_rules.specs.EngineView.{MediaView}
+use Rattle.engine_rules.specs.EngineView.{engine_view}
 use Rattle.engine_rules.specs.Gather.{Left, left_of, none_left, pages_left, session_of}
 use Rattle.engine_rules.specs.Resumed.{MayResume, resumed_state}
 

@@ -7,7 +7,8 @@ use Rattle.page_store.specs.Store.{GrowCall, ReadCall, WriteCall}
 use Rattle.buffer_pool.specs.Frames.{is_resident}
 use Rattle.engine_calls.specs.declared.event.Event.{Event}
 use Rattle.engine_calls.specs.declared.event.Event.TheVariants as event
-use Rattle.engine_rules.specs.EngineState.{EngineState, EngineView, image_of, page_needed, page_now}
+use Rattle.engine_rules.specs.EngineState.{EngineState, image_of, page_needed, page_now}
+use Rattle.engine_rules.specs.EngineView.{EngineView}
 use Rattle.engine_rules.specs.EngineState.{stored_page}
 
 -- a page, or to store one, or to have so many pages, or nothing

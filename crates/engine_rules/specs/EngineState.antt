@@ -1,5 +1,5 @@
 -- What an engine is, and what an accepted call makes of it.
-use Rattle.std.specs.Prelude.{ℕ, ◌≡◌, ◌+◌, ◌-◌, ◌<◌, ◌≤◌, take, take, List, [], ◌∷◌, ◌++◌, length, map, max, nat_lt}
+use Rattle.std.specs.Prelude.{ℕ, ◌≡◌, ◌+◌, ◌-◌, ◌<◌, ◌≤◌, List, [], ◌∷◌, ◌++◌, length, map, max, nat_lt}
 use Rattle.std.specs.Prelude.{replicate, slice_index, slice_index_or, slice_set, Option, Some}
 use Rattle.std.specs.Prelude.{IsSome, IsSomeAnd, None, IfSome, false, if◌then◌else◌}
 use Rattle.std.specs.List.{All}
@@ -10,7 +10,7 @@ use Rattle.page_core.specs.Change.{undo_of}
 use Rattle.page_core.specs.Page.{formatted}
 use Rattle.page_core.specs.Volume.{formatted_pages, grown_to}
 use Rattle.buffer_pool.specs.Frames.{IsResident, fetched, is_resident}
-use Rattle.buffer_pool.specs.Pool.{IsPoolOf, PoolView, is_clean, writing_of, written_of}
+use Rattle.buffer_pool.specs.Pool.{is_clean}
 use Rattle.log_records.specs.Coverage.{AreStored, rec_lsn}
 use Rattle.log_rules.specs.declared.pending_change.PendingChange.{PendingChange}
 use Rattle.log_rules.specs.Checkpoint.{Checkpoint, IsCompleteCheckpoint, open_checkpoint}
@@ -23,14 +23,10 @@ use Rattle.log_rules.specs.Linked.{IsLinked, number_in}
 use Rattle.log_records.specs.Log.{IsLog, Log, lsn_of, page_count, page_count_below}
 use Rattle.log_rules.specs.Savepoints.{savepoint}
 use Rattle.log_rules.specs.Transactions.{begun, last_lsn, last_of, pending}
-use Rattle.log_rules.specs.Table.{Table}
 use Rattle.log_store.specs.declared.master.Master.{Master}
-use Rattle.log_store.specs.WrittenLog.{WrittenLog, end_up_to}
-use Rattle.txn_table.specs.declared.returns.Return.{Return}
-use Rattle.txn_table.specs.Returns.{returns_of}
-use Rattle.txn_table.specs.TxnTable.{IsTableOf}
+use Rattle.log_store.specs.WrittenLog.{end_up_to}
 use Rattle.fuzzy_ckpt.specs.declared.point.Point.{Point}
-use Rattle.fuzzy_ckpt.specs.Ckpt.{AllCover, AreCovered, CkptView, IsCkptOf, Phase}
+use Rattle.fuzzy_ckpt.specs.Ckpt.{AllCover, AreCovered, IsCkptOf}
 use Rattle.fuzzy_ckpt.specs.Steps.{Gathering, gather_step}
 use Rattle.image_copies.specs.declared.copy_id.CopyKind.{CopyKind}
 use Rattle.image_copies.specs.declared.copy_id.CopyKind.TheVariants.{Full, Inc}
@@ -449,51 +445,3 @@ pub record IsFit (s : EngineState) : Type 0 where
   pub master : IfSome s.master (IsMasterOf (log_of s) s.stored s.forced_end)
   pub copied : AreCopied (log_of s) s.forced_end s.stored s.copies
   pub noted : HaveMaster s.master s.copies
-
--- ---- the engine, its store and its device
-
-pub record EngineView (S D : Type 0) : Type 0 where
-  pub state : EngineState
-  pub store : S
-  pub device : D
-
--- what an engine keeps beside its log, its table and its pool: the last complete checkpoint, the
--- session of the open one, the image copies, and the Comps that go back to savepoints
-pub record MediaView : Type 0 where
-  pub master : Option Point
-  pub session : Option (CkptView Phase)
-  pub copies : List CopyState
-  pub returns : List Return
-
--- what an engine is, by the log that it writes, the pool of its pages, its checkpoints and copies;
--- the store may have more pages than the volume
-abbrev pub engine_view : {S D : Type 0} → (S → List Page) → WrittenLog D → PoolView S
-    → MediaView → EngineView S D
-engine_view stored it pool ckpts = record {
-  state = record {
-    pages = it.log.pages;
-    log = it.log.records;
-    forced_end = it.forced_end;
-    master = ckpts.master;
-    frames = pool.frames;
-    resident = pool.resident;
-    stored = take (length pool.states) (stored pool.store);
-    written = written_of pool.states;
-    writing = writing_of pool.states;
-    left = option_map_or (λ c. left_of c.phase) ckpts.session pages_left;
-    copies = ckpts.copies;
-  };
-  store = pool.store;
-  device = it.device;
-}
-
--- the engine is fit, and its transaction table, its pool, the session of its checkpoint and its
--- Comps that go back to savepoints are those of its log
-pub record IsConsistent {S : Type 0} (stored : S → List Page) (s : EngineState) (table : Table)
-    (pool : PoolView S) (ckpts : MediaView) : Type 0 where
-  pub fit : IsFit s
-  pub table_of_log : IsTableOf s.log table
-  pub pool_of_log : IsPoolOf stored (log_of s) pool
-  pub session_of_log : ckpts.session
-      ≡ option_map (session_of (log_of s) s.left) (open_checkpoint s.log)
-  pub returns_of_log : ckpts.returns ≡ returns_of s.log

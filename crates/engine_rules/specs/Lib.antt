@@ -5,6 +5,7 @@ pub mod Call
 pub mod Catalogue
 pub mod CkptReplies
 pub mod EngineState
+pub mod EngineView
 pub mod Gather
 pub mod Refusal
 pub mod Repair

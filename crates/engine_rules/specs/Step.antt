@@ -21,7 +21,8 @@ use Rattle.engine_calls.specs.declared.event.Undone.TheVariants as undone
 use Rattle.engine_calls.specs.declared.refusal.Refusal.{Refusal}
 use Rattle.engine_calls.specs.declared.refusal.Refusal.TheVariants.{CommitUnsure, LogFault}
 use Rattle.engine_calls.specs.declared.refusal.Refusal.TheVariants.{OutOfMemory, StoreFault}
-use Rattle.engine_rules.specs.EngineState.{EngineState, EngineView, appended, closed, commit_record}
+use Rattle.engine_rules.specs.EngineState.{EngineState, appended, closed, commit_record}
+use Rattle.engine_rules.specs.EngineView.{EngineView}
 use Rattle.engine_rules.specs.EngineState.{Fetches, effect, end}
 use Rattle.engine_rules.specs.EngineState.{forced_to, gathered_record, image_of, log_of, page_now}
 use Rattle.engine_rules.specs.EngineState.{taken_back, with_stored}

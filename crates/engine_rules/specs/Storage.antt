@@ -9,7 +9,8 @@ use Rattle.engine_calls.specs.declared.event.Event.{Event}
 use Rattle.engine_calls.specs.declared.refusal.Refusal.{Refusal}
 use Rattle.engine_calls.specs.declared.refusal.Refusal.TheVariants.{CommitUnsure, LogFault}
 use Rattle.engine_calls.specs.declared.refusal.Refusal.TheVariants.{StoreFault}
-use Rattle.engine_rules.specs.EngineState.{EngineView, new_state}
+use Rattle.engine_rules.specs.EngineState.{new_state}
+use Rattle.engine_rules.specs.EngineView.{EngineView}
 use Rattle.engine_rules.specs.Asked.{Asks, FailsAsking, asked}
 use Rattle.engine_rules.specs.Step.{FailsForcing, Forces, IsByDevice, IsByStore, Step, TellsOfFault}
 use Rattle.engine_rules.specs.Step.{written_log_of}

@@ -4,7 +4,8 @@ use Rattle.log_store.specs.Stores.{StoreCall, SyncCall}
 use Rattle.page_store.specs.Store.{GrowCall, ReadCall, WriteCall}
 use Rattle.engine_calls.specs.declared.refusal.Refusal.{Refusal}
 use Rattle.engine_rules.specs.Asked.{Asked, Asks, FailsAsking}
-use Rattle.engine_rules.specs.EngineState.{EngineView, end}
+use Rattle.engine_rules.specs.EngineState.{end}
+use Rattle.engine_rules.specs.EngineView.{EngineView}
 use Rattle.engine_rules.specs.Step.{FailsForcing, Forces, IsByDevice, IsByStore}
 
 -- the store is called at most once, for what is asked of it: it does this where the call of the engine

@@ -1,7 +1,7 @@
 -- What lies under the lock.
 use Rattle.std.specs.Prelude.{ℕ, ◌≡◌}
 use Rattle.settlement.specs.Counts.{updates_in}
-use Rattle.engine_rules.specs.EngineState.{EngineView}
+use Rattle.engine_rules.specs.EngineView.{EngineView}
 
 -- the engine, and the total of the book: how many changes the sessions' shares count together
 pub record HeldView (S D : Type 0) : Type 0 where

@@ -6,7 +6,7 @@ ghost use Rattle.log_records.specs.Log.{IsPageCount, lsn_of};
 ghost use Rattle.copy_coverage.specs.Kept.{IsKeptOf};
 ghost use Rattle.copy_coverage.specs.Retired.{HasRoomForUndo};
 ghost use Rattle.loser_undo.specs.Recovery.{IsWhole};
-ghost use Rattle.engine_rules.specs.EngineState.{EngineView};
+ghost use Rattle.engine_rules.specs.EngineView.{EngineView};
 ghost use Rattle.engine_rules.specs.Step.{IsByDevice, IsFaultReply};
 ghost use Rattle.engine_rules.specs.Storage.{FailsAtHeader, PlaysOn};
 ghost use Rattle.page_core.specs.Volume.{formatted_pages};

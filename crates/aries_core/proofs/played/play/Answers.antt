@@ -2,7 +2,8 @@ use Rattle.std.proofs.Common.{refl, rules, ◌≡◌, ◌<◌, ◌+◌, length, 
 use Rattle.std.specs.Prelude.{Result, Ok, Err, IfErr, IsErrAnd}
 use Rattle.std.proofs.lemmas.List.{length-take, take_more}
 use Rattle.engine_calls.specs.declared.event.Event.{Event}
-use Rattle.engine_rules.specs.EngineState.{IsFit, EngineView, new_state}
+use Rattle.engine_rules.specs.EngineState.{IsFit, new_state}
+use Rattle.engine_rules.specs.EngineView.{EngineView}
 use Rattle.engine_rules.specs.Step.{IsByDevice, IsByStore}
 use Rattle.engine_rules.proofs.Public.{work_of_run}
 use Rattle.engine_rules.proofs.Public.{copies_of_run}

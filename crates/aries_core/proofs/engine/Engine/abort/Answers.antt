@@ -1,6 +1,7 @@
 use Rattle.std.proofs.Common.{◌≡◌, refl, ap, ◌∙◌}
 use Rattle.engine_calls.specs.declared.event.Event.TheVariants as event
-use Rattle.engine_rules.specs.EngineState.{EngineView, end}
+use Rattle.engine_rules.specs.EngineState.{end}
+use Rattle.engine_rules.specs.EngineView.{EngineView}
 use Rattle.aries_core.proofs.engine.Engine.abort.Goals as goal
 
 pub append-requires-clause-called : goal.append-requires-clause-called

@@ -6,7 +6,8 @@ use Rattle.log_records.proofs.Public.{transaction_gives_none}
 use Rattle.log_records.specs.Log.{Log, StandsAt, lsn_of}
 use Rattle.log_records.specs.Log.{page_count}
 use Rattle.engine_rules.specs.Call.{Calls}
-use Rattle.engine_rules.specs.EngineState.{EngineState, EngineView, IsConsistent, appended, engine_view, log_of}
+use Rattle.engine_rules.specs.EngineState.{EngineState, appended, log_of}
+use Rattle.engine_rules.specs.EngineView.{EngineView, IsConsistent, engine_view}
 use Rattle.aries_core.specs.OpenCkpt.{media_view}
 use Rattle.aries_core.proofs.Appends.{appended_is, kept_next, valid_with}
 use Rattle.engine_rules.proofs.Public.{comes, comes_few}

@@ -7,7 +7,8 @@ use Rattle.log_records.specs.Log.{Log, StandsAt, lsn_of}
 use Rattle.log_records.specs.Log.{page_count}
 use Rattle.log_records.proofs.Public.{transaction_gives_none}
 use Rattle.engine_rules.specs.Call.{Calls}
-use Rattle.engine_rules.specs.EngineState.{EngineState, EngineView, appended, engine_view, log_of, with_page}
+use Rattle.engine_rules.specs.EngineState.{EngineState, appended, log_of, with_page}
+use Rattle.engine_rules.specs.EngineView.{EngineView, engine_view}
 use Rattle.engine_rules.specs.EngineState.{volume_pages}
 use Rattle.aries_core.specs.OpenCkpt.{media_view}
 use Rattle.aries_core.proofs.Appends.{after_fetch, appended_is, valid_with}

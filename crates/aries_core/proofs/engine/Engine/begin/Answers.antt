@@ -4,7 +4,8 @@ use Rattle.std.proofs.lemmas.Bool.{lt-leb}
 use Rattle.log_records.specs.declared.limits.TheConstants.{MAX_OPEN}
 use Rattle.log_rules.specs.Transactions.{open_in}
 use Rattle.engine_calls.specs.declared.event.Event.TheVariants as event
-use Rattle.engine_rules.specs.EngineState.{EngineState, EngineView, end, next_txn}
+use Rattle.engine_rules.specs.EngineState.{EngineState, end, next_txn}
+use Rattle.engine_rules.specs.EngineView.{EngineView}
 use Rattle.engine_rules.specs.Refusal.{has_no_room, refusal}
 use Rattle.aries_core.proofs.engine.Engine.begin.Goals as goal
 

@@ -5,7 +5,7 @@ use Rattle.std.proofs.Common.{◌∙◌, subst, sym}
 use Rattle.page_core.specs.Page.{formatted}
 use Rattle.engine_calls.specs.declared.refusal.Refusal.TheVariants.{StoreFault}
 use Rattle.engine_rules.specs.Asked.{page_asked}
-use Rattle.engine_rules.specs.EngineState.{EngineView, engine_view}
+use Rattle.engine_rules.specs.EngineView.{EngineView, engine_view}
 use Rattle.engine_rules.specs.Uses.{AsksStore}
 use Rattle.aries_core.specs.OpenCkpt.{media_view}
 use Rattle.aries_core.proofs.Asks.{failing, page_came, page_failed, said, why_failed}

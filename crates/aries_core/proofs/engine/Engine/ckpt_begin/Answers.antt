@@ -4,7 +4,7 @@ use Rattle.fuzzy_ckpt.specs.Ckpt.{CkptView, Phase}
 use Rattle.engine_calls.specs.declared.event.Answer.TheVariants as answer
 use Rattle.engine_calls.specs.declared.event.Event.TheVariants as event
 use Rattle.aries_core.specs.declared.open_ckpt.OpenCkpt.TheVariants.{Pages}
-use Rattle.engine_rules.specs.EngineState.{EngineView, engine_view}
+use Rattle.engine_rules.specs.EngineView.{EngineView, engine_view}
 use Rattle.aries_core.specs.OpenCkpt.{media_view}
 use Rattle.engine_rules.specs.Refusal.{refusal}
 use Rattle.engine_rules.specs.Step.{Step}

@@ -6,7 +6,7 @@ use Rattle.fuzzy_ckpt.specs.Ckpt.{gathered_ckpt}
 use Rattle.engine_calls.specs.declared.event.Answer.TheVariants as answer
 use Rattle.engine_calls.specs.declared.event.Event.TheVariants as event
 use Rattle.engine_calls.specs.declared.refusal.Refusal.TheVariants.{LogFault}
-use Rattle.engine_rules.specs.EngineState.{EngineView, engine_view}
+use Rattle.engine_rules.specs.EngineView.{EngineView, engine_view}
 use Rattle.aries_core.specs.OpenCkpt.{media_view, view_of}
 use Rattle.engine_rules.specs.Refusal.{refusal}
 use Rattle.engine_rules.specs.Step.{Step}

@@ -4,7 +4,7 @@ use Rattle.std.specs.Option.{option_map}
 use Rattle.engine_calls.specs.declared.event.Answer.TheVariants as answer
 use Rattle.engine_calls.specs.declared.event.Event.TheVariants as event
 use Rattle.engine_calls.specs.declared.refusal.Refusal.TheVariants.{OutOfMemory}
-use Rattle.engine_rules.specs.EngineState.{EngineView, engine_view}
+use Rattle.engine_rules.specs.EngineView.{EngineView, engine_view}
 use Rattle.engine_rules.specs.Gather.{is_done, left_of}
 use Rattle.aries_core.specs.OpenCkpt.{media_view, view_of}
 use Rattle.engine_rules.specs.Refusal.{refusal}

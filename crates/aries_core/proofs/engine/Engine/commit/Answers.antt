@@ -1,7 +1,8 @@
 use Rattle.std.proofs.Common.{◌≡◌, refl, ap, arith, ◌∙◌}
 use Rattle.engine_calls.specs.declared.event.Event.TheVariants as event
 use Rattle.log_records.specs.declared.record.Record.{Record}
-use Rattle.engine_rules.specs.EngineState.{EngineState, EngineView, appended, end}
+use Rattle.engine_rules.specs.EngineState.{EngineState, appended, end}
+use Rattle.engine_rules.specs.EngineView.{EngineView}
 use Rattle.engine_calls.specs.declared.refusal.Refusal.TheVariants.{CommitUnsure}
 use Rattle.aries_core.proofs.Uses.{not_forced, was_forced}
 use Rattle.aries_core.proofs.engine.Engine.commit.Goals as goal

@@ -1,6 +1,6 @@
 use Rattle.std.proofs.Common.{subst, sym}
 use Rattle.log_records.specs.Coverage.{IsPast}
-use Rattle.engine_rules.specs.EngineState.{EngineView, engine_view}
+use Rattle.engine_rules.specs.EngineView.{EngineView, engine_view}
 use Rattle.aries_core.specs.OpenCkpt.{media_view}
 use Rattle.aries_core.proofs.Repairs.{chain_covers}
 use Rattle.aries_core.proofs.engine.Engine.copied.Goals as goal

@@ -2,7 +2,8 @@ use Rattle.std.proofs.Common.{subst}
 use Rattle.std.specs.Prelude.{Ok}
 use Rattle.engine_calls.specs.declared.event.Answer.TheVariants as answer
 use Rattle.engine_calls.specs.declared.event.Event.TheVariants as event
-use Rattle.engine_rules.specs.EngineState.{engine_view, with_copies}
+use Rattle.engine_rules.specs.EngineState.{with_copies}
+use Rattle.engine_rules.specs.EngineView.{engine_view}
 use Rattle.aries_core.specs.OpenCkpt.{media_view}
 use Rattle.engine_rules.specs.Step.{Step}
 use Rattle.aries_core.proofs.CopyCalls.{copies_kept, full_step}

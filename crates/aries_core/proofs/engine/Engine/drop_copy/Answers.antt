@@ -1,7 +1,7 @@
 use Rattle.std.specs.Prelude.{Ok}
 use Rattle.engine_calls.specs.declared.event.Answer.TheVariants as answer
 use Rattle.engine_calls.specs.declared.event.Event.TheVariants as event
-use Rattle.engine_rules.specs.EngineState.{engine_view}
+use Rattle.engine_rules.specs.EngineView.{engine_view}
 use Rattle.aries_core.specs.OpenCkpt.{media_view}
 use Rattle.aries_core.proofs.CopyCalls.{copies_kept, drop_step}
 use Rattle.aries_core.proofs.engine.Engine.drop_copy.Goals as goal

@@ -7,7 +7,8 @@ use Rattle.buffer_pool.specs.Pool.{PoolView}
 use Rattle.page_store.specs.declared.store.StoreFault.{StoreFault}
 use Rattle.engine_calls.specs.declared.event.Answer.TheVariants as answer
 use Rattle.engine_calls.specs.declared.event.Event.TheVariants as event
-use Rattle.engine_rules.specs.EngineState.{EngineState, EngineView, IsConsistent, end, engine_view, extend_record, log_of}
+use Rattle.engine_rules.specs.EngineState.{EngineState, end, extend_record, log_of}
+use Rattle.engine_rules.specs.EngineView.{EngineView, IsConsistent, engine_view}
 use Rattle.aries_core.specs.OpenCkpt.{media_view}
 use Rattle.engine_rules.specs.Refusal.{refusal}
 use Rattle.engine_rules.specs.Step.{Step}

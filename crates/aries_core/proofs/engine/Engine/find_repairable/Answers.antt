@@ -3,7 +3,8 @@ use Rattle.std.specs.Prelude.{Some, None, is_some}
 use Rattle.copy_vault.specs.Vault.{complete_refusal}
 use Rattle.engine_calls.specs.declared.event.Event.TheVariants as event
 use Rattle.engine_calls.specs.declared.refusal.Refusal.TheVariants.{WriteBegun}
-use Rattle.engine_rules.specs.EngineState.{EngineView, engine_view, image_of, volume_pages}
+use Rattle.engine_rules.specs.EngineState.{image_of, volume_pages}
+use Rattle.engine_rules.specs.EngineView.{EngineView, engine_view}
 use Rattle.aries_core.specs.OpenCkpt.{media_view}
 use Rattle.engine_rules.specs.Refusal.{refusal}
 use Rattle.aries_core.proofs.PoolStates.{image_at, repair_begun, repair_may}

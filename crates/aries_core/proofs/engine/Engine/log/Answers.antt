@@ -1,7 +1,7 @@
 use Rattle.std.proofs.Common.{length, subst, arith}
 use Rattle.std.proofs.lemmas.List.{length-take}
 use Rattle.page_store.specs.Store.{IsGrown}
-use Rattle.engine_rules.specs.EngineState.{EngineView}
+use Rattle.engine_rules.specs.EngineView.{EngineView}
 use Rattle.aries_core.proofs.PoolStates.{behind_volume}
 use Rattle.aries_core.proofs.engine.Engine.log.Goals as goal
 

@@ -3,7 +3,8 @@ use Rattle.page_core.specs.declared.page.Page.{Page}
 use Rattle.buffer_pool.specs.Frames.{IsResident}
 use Rattle.log_rules.specs.Linked.{number_in}
 use Rattle.log_records.specs.Image.{image}
-use Rattle.engine_rules.specs.EngineState.{EngineView, engine_view, log_of}
+use Rattle.engine_rules.specs.EngineState.{log_of}
+use Rattle.engine_rules.specs.EngineView.{EngineView, engine_view}
 use Rattle.aries_core.specs.OpenCkpt.{media_view}
 use Rattle.aries_core.proofs.engine.Engine.number.Goals as goal
 

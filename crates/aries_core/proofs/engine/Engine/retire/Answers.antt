@@ -3,7 +3,7 @@ use Rattle.std.specs.Prelude.{Option}
 use Rattle.log_records.specs.Log.{Log}
 use Rattle.log_store.specs.declared.master.Master.{Master}
 use Rattle.copy_coverage.specs.Retired.{IsRetired}
-use Rattle.engine_rules.specs.EngineState.{engine_view}
+use Rattle.engine_rules.specs.EngineView.{engine_view}
 use Rattle.aries_core.specs.OpenCkpt.{media_view}
 use Rattle.aries_core.proofs.Retires.{left_by}
 use Rattle.aries_core.proofs.engine.Engine.retire.Goals as goal

@@ -1,7 +1,8 @@
 use Rattle.std.proofs.Common.{arith, ◌≡◌, ◌∙◌, sym, ap, subst, refl}
 use Rattle.std.specs.Prelude.{None, Ok, Result}
 use Rattle.engine_calls.specs.declared.event.Event.TheVariants as event
-use Rattle.engine_rules.specs.EngineState.{engine_view, log_of}
+use Rattle.engine_rules.specs.EngineState.{log_of}
+use Rattle.engine_rules.specs.EngineView.{engine_view}
 use Rattle.aries_core.specs.OpenCkpt.{media_view}
 use Rattle.copy_vault.specs.Vault.{answer_in, decided, state_of}
 use Rattle.engine_rules.specs.Refusal.{refusal}
@@ -18,7 +19,7 @@ use Rattle.engine_calls.specs.declared.event.Took.{Took}
 use Rattle.engine_calls.specs.declared.refusal.Refusal.{Refusal}
 use Rattle.engine_rules.specs.Asked.{a_page}
 use Rattle.engine_rules.specs.Uses.{AsksStore}
-use Rattle.engine_rules.specs.EngineState.{EngineView}
+use Rattle.engine_rules.specs.EngineView.{EngineView}
 use Rattle.aries_core.proofs.Uses.{was_asked}
 use Rattle.aries_core.proofs.PoolStates.{page_at}
 use Rattle.std.proofs.Common.{◌<◌, length}

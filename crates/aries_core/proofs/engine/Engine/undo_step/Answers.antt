@@ -5,7 +5,8 @@ use Rattle.log_records.specs.Record.{IsOfTransaction}
 use Rattle.log_rules.specs.declared.pending_change.PendingChange.{PendingChange}
 use Rattle.log_rules.specs.Transactions.{is_open, last_of, pending}
 use Rattle.engine_calls.specs.declared.event.Event.TheVariants as event
-use Rattle.engine_rules.specs.EngineState.{EngineView, IsFit, end}
+use Rattle.engine_rules.specs.EngineState.{IsFit, end}
+use Rattle.engine_rules.specs.EngineView.{EngineView}
 use Rattle.engine_rules.specs.EngineState.{volume_pages}
 use Rattle.engine_rules.specs.Refusal.{refusal}
 use Rattle.engine_rules.proofs.Public.{needed_within}

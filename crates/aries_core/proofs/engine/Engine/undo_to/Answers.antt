@@ -4,7 +4,8 @@ use Rattle.std.specs.Option.{option_map}
 use Rattle.log_rules.specs.declared.pending_change.PendingChange.{PendingChange}
 use Rattle.log_records.specs.Record.{IsOfTransaction}
 use Rattle.engine_calls.specs.declared.event.Event.TheVariants as event
-use Rattle.engine_rules.specs.EngineState.{EngineView, IsFit, comp_record, taken_back}
+use Rattle.engine_rules.specs.EngineState.{IsFit, comp_record, taken_back}
+use Rattle.engine_rules.specs.EngineView.{EngineView}
 use Rattle.engine_rules.specs.EngineState.{volume_pages}
 use Rattle.engine_rules.specs.Refusal.{refusal}
 use Rattle.aries_core.proofs.FetchCalls.{back_passes}

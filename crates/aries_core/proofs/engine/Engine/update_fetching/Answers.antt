@@ -12,7 +12,8 @@ use Rattle.log_records.specs.Log.{page_count}
 use Rattle.log_rules.specs.Linked.{number_in}
 use Rattle.log_rules.specs.Transactions.{last_lsn}
 use Rattle.engine_rules.specs.Call.{Calls}
-use Rattle.engine_rules.specs.EngineState.{EngineState, EngineView, IsConsistent, end, engine_view, log_of}
+use Rattle.engine_rules.specs.EngineState.{EngineState, end, log_of}
+use Rattle.engine_rules.specs.EngineView.{EngineView, IsConsistent, engine_view}
 use Rattle.aries_core.specs.OpenCkpt.{media_view}
 use Rattle.aries_core.proofs.Appends.{after_fetch, appended_is, valid_with}
 use Rattle.engine_calls.specs.declared.refusal.Refusal.TheVariants.{StoreFault}

@@ -6,7 +6,8 @@ use Rattle.log_store.specs.WrittenLog.{end_up_to}
 use Rattle.engine_calls.specs.declared.event.Answer.TheVariants as answer
 use Rattle.engine_calls.specs.declared.event.Event.TheVariants as event
 use Rattle.engine_calls.specs.declared.refusal.Refusal.TheVariants.{LogFault}
-use Rattle.engine_rules.specs.EngineState.{EngineView, engine_view, log_of}
+use Rattle.engine_rules.specs.EngineState.{log_of}
+use Rattle.engine_rules.specs.EngineView.{EngineView, engine_view}
 use Rattle.engine_rules.specs.Refusal.{refusal}
 use Rattle.engine_rules.specs.Step.{Step}
 use Rattle.engine_rules.specs.Uses.{ForcesDevice}

@@ -4,7 +4,8 @@ use Rattle.page_core.specs.declared.numbers.Lsn.{Lsn}
 use Rattle.engine_calls.specs.declared.event.Answer.TheVariants as answer
 use Rattle.engine_calls.specs.declared.event.Event.TheVariants as event
 use Rattle.engine_calls.specs.declared.refusal.Refusal.{Refusal}
-use Rattle.engine_rules.specs.EngineState.{EngineView, engine_view, log_of}
+use Rattle.engine_rules.specs.EngineState.{log_of}
+use Rattle.engine_rules.specs.EngineView.{EngineView, engine_view}
 use Rattle.engine_rules.specs.Refusal.{refusal}
 use Rattle.engine_rules.specs.Step.{Step, reply_of}
 use Rattle.engine_rules.specs.Asked.{asked}
