@@ -40,34 +40,31 @@ asks_nothing gave wrote grew old new page there same =
     subst (λ (b : Bool). Asks gave wrote grew (cond b nothing (a_page page)) old new) (sym there) same
 
 -- one that is not there was read from the store, of a pool that had made room for it, or that call failed
-module _ {S D : Type 0} (stored : S → List Page) (gave : ReadCall S) (wrote : WriteCall S) (grew : GrowCall S)
-    (failures : S → ℕ) (it : WrittenLog D) (pool roomy : PoolView S) (media : MediaView) (new : EngineView S D) (page : ℕ)
+module _ {S D T : Type 0} (stored : S → List Page) {gave : ReadCall S} {wrote : WriteCall S} {grew : GrowCall S}
+    {failures : S → ℕ} (it : WrittenLog D) (pool roomy : PoolView S) (media : MediaView) (new : EngineView S D) (page : ℕ)
     (left : S) (within : page < length pool.states) (absent : is_resident pool.resident page ≡ false)
     (same : roomy ≡ record pool { room = roomy.room }) (store : new.store ≡ left) where
-  pub page_came : {T : Type 0} (value : T) → gave roomy.store page (Ok (get_or (stored roomy.store) page (formatted page))) left
+  pub page_came : (value : T) → gave roomy.store page (Ok (get_or (stored roomy.store) page (formatted page))) left
       → failures left ≡ failures roomy.store
       → AsksStore gave wrote grew failures (page_asked (engine_view stored it pool media).state page)
       (engine_view stored it pool media) (Ok value) new
   page_came value given quiet =
-      was_asked gave wrote grew failures _ (engine_view stored it pool media) new value
+      was_asked value
       (subst (λ (b : Bool). Asks gave wrote grew (cond b nothing (a_page page)) (engine_view stored it pool media) new)
       (sym absent)
       (subst (λ (q : Page). gave pool.store page (Ok q) new.store) (sym (page_at stored it pool media page within))
       (subst (λ (v : PoolView S). gave v.store page (Ok (get_or (stored v.store) page (formatted page))) new.store) same
-      (subst (λ (x : S). gave roomy.store page (Ok (get_or (stored roomy.store) page (formatted page))) x) (sym store)
-      given))))
+      (rw store given))))
       (ap failures store ∙ quiet ∙ ap (λ (v : PoolView S). failures v.store) same)
 
-  pub page_failed : {T : Type 0} → (why : StoreFault) × gave roomy.store page (Err why) left
-      → failures roomy.store < failures left
+  pub page_failed : (why : StoreFault) × gave roomy.store page (Err why) left → failures roomy.store < failures left
       → AsksStore {T = T} gave wrote grew failures (page_asked (engine_view stored it pool media).state page)
       (engine_view stored it pool media) (Err by.StoreFault) new
   page_failed failed more =
-      asked_in_vain gave wrote grew failures _ (engine_view stored it pool media) new
+      asked_in_vain
       (subst (λ (b : Bool). FailsAsking gave wrote grew (cond b nothing (a_page page)) (engine_view stored it pool media) new)
       (sym absent)
-      (subst (λ (v : PoolView S). (why : StoreFault) × gave v.store page (Err why) new.store) same
-      (subst (λ (x : S). (why : StoreFault) × gave roomy.store page (Err why) x) (sym store) failed)))
+      (subst (λ (v : PoolView S). (why : StoreFault) × gave v.store page (Err why) new.store) same (rw store failed)))
       (omega (arith, more, ap failures store, ap (λ (v : PoolView S). failures v.store) same))
 
 -- the image of a page whose write ends is stored

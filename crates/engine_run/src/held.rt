@@ -1,13 +1,11 @@
 //! What lies under the lock: the engine, and the book that counts its changes.
 
-ghost use Rattle.std.specs.Prelude.{ℕ, ◌≡◌, ◌+◌, ◌<◌, ◌≤◌, IfErr, IfOk, OnErr, OnOk};
-ghost use Rattle.page_core.specs.Volume.{formatted_pages};
-ghost use Rattle.log_records.specs.Log.{IsPageCount};
+ghost use Rattle.std.specs.Prelude.{◌≡◌, ◌+◌, ◌<◌, IfOk, OnErr, OnOk};
 ghost use Rattle.settlement.specs.Counts.{updates_in};
-ghost use Rattle.engine_rules.specs.Asked.{Asks, FailsAsking, asked};
-ghost use Rattle.engine_rules.specs.EngineState.{Fetches, end, volume_pages};
-ghost use Rattle.engine_rules.specs.Step.{FailsForcing, Forces, IsByStore, IsUnsure, Step, reply_of};
-ghost use Rattle.engine_rules.specs.Step.{step_back_answer, undo_answer};
+ghost use Rattle.engine_rules.specs.Asked.{asked};
+ghost use Rattle.engine_rules.specs.EngineState.{end, volume_pages};
+ghost use Rattle.engine_rules.specs.Step.{Step, reply_of, step_back_answer, undo_answer};
+ghost use Rattle.engine_rules.specs.Uses.{AsksStore, ForcesDevice};
 ghost use Rattle.engine_calls.specs.declared.event.Answer.TheVariants as answer;
 ghost use Rattle.engine_calls.specs.declared.event.Event.TheVariants as event;
 ghost use Rattle.engine_run.specs.Peek.{IsReadOf};
@@ -77,20 +75,9 @@ impl<S: PageStore, D: LogDevice, G: Ledger> Held<S, D, G> {
         requires part { 0 < share.old.parts }
         ensures step { Step self.old.engine.state (event.Set txn page slot number)
             (reply_of answer.Logged result) self.new.engine.state }
-        ensures store { ¬ Fetches self.old.engine.state (event.Set txn page slot number)
-            → self.new.engine.store ≡ self.old.engine.store }
-        ensures store_refused { IfErr result (λ why. ¬ IsByStore why
-            → self.new.engine.store ≡ self.old.engine.store) }
-        ensures asked { OnOk result (Asks S.gave S.wrote S.grew
-            (asked self.old.engine.state (event.Set txn page slot number)) self.old.engine
-            self.new.engine) }
-        ensures failed { IfErr result (λ why. IsByStore why → FailsAsking S.gave S.wrote S.grew
-            (asked self.old.engine.state (event.Set txn page slot number)) self.old.engine
-            self.new.engine) }
-        ensures no_store_failure { OnOk result
-            (S.failures self.new.engine.store ≡ S.failures self.old.engine.store) }
-        ensures store_cause { IfErr result (λ why. IsByStore why
-            → S.failures self.old.engine.store < S.failures self.new.engine.store) }
+        ensures store { AsksStore S.gave S.wrote S.grew S.failures
+            (asked self.old.engine.state (event.Set txn page slot number)) self.old.engine result
+            self.new.engine }
         ensures device { self.new.engine.device ≡ self.old.engine.device }
         ensures counted { OnOk result (share.new.amount ≡ share.old.amount + 1) }
         ensures uncounted { OnErr result (share.new.amount ≡ share.old.amount) }
@@ -113,20 +100,9 @@ impl<S: PageStore, D: LogDevice, G: Ledger> Held<S, D, G> {
         requires part { 0 < share.old.parts }
         ensures step { Step self.old.engine.state (event.Add txn page slot amount)
             (reply_of answer.Logged result) self.new.engine.state }
-        ensures store { ¬ Fetches self.old.engine.state (event.Add txn page slot amount)
-            → self.new.engine.store ≡ self.old.engine.store }
-        ensures store_refused { IfErr result (λ why. ¬ IsByStore why
-            → self.new.engine.store ≡ self.old.engine.store) }
-        ensures asked { OnOk result (Asks S.gave S.wrote S.grew
-            (asked self.old.engine.state (event.Add txn page slot amount)) self.old.engine
-            self.new.engine) }
-        ensures failed { IfErr result (λ why. IsByStore why → FailsAsking S.gave S.wrote S.grew
-            (asked self.old.engine.state (event.Add txn page slot amount)) self.old.engine
-            self.new.engine) }
-        ensures no_store_failure { OnOk result
-            (S.failures self.new.engine.store ≡ S.failures self.old.engine.store) }
-        ensures store_cause { IfErr result (λ why. IsByStore why
-            → S.failures self.old.engine.store < S.failures self.new.engine.store) }
+        ensures store { AsksStore S.gave S.wrote S.grew S.failures
+            (asked self.old.engine.state (event.Add txn page slot amount)) self.old.engine result
+            self.new.engine }
         ensures device { self.new.engine.device ≡ self.old.engine.device }
         ensures counted { OnOk result (share.new.amount ≡ share.old.amount + 1) }
         ensures uncounted { OnErr result (share.new.amount ≡ share.old.amount) }
@@ -143,20 +119,9 @@ impl<S: PageStore, D: LogDevice, G: Ledger> Held<S, D, G> {
             (reply_of (λ a. answer.Number a.1) result) self.new.engine.state }
         ensures end { IfOk result (λ a. a.0 ≡ end self.old.engine.state) }
         ensures log { self.new.engine.state.log ≡ self.old.engine.state.log }
-        ensures store { ¬ Fetches self.old.engine.state (event.Read page slot)
-            → self.new.engine.store ≡ self.old.engine.store }
-        ensures store_refused { IfErr result (λ why. ¬ IsByStore why
-            → self.new.engine.store ≡ self.old.engine.store) }
-        ensures asked { OnOk result (Asks S.gave S.wrote S.grew
-            (asked self.old.engine.state (event.Read page slot)) self.old.engine
-            self.new.engine) }
-        ensures failed { IfErr result (λ why. IsByStore why → FailsAsking S.gave S.wrote S.grew
-            (asked self.old.engine.state (event.Read page slot)) self.old.engine
-            self.new.engine) }
-        ensures no_store_failure { OnOk result
-            (S.failures self.new.engine.store ≡ S.failures self.old.engine.store) }
-        ensures store_cause { IfErr result (λ why. IsByStore why
-            → S.failures self.old.engine.store < S.failures self.new.engine.store) }
+        ensures store { AsksStore S.gave S.wrote S.grew S.failures
+            (asked self.old.engine.state (event.Read page slot)) self.old.engine result
+            self.new.engine }
         ensures device { self.new.engine.device ≡ self.old.engine.device }
     {
         let number = self.engine.read(page, slot)?;
@@ -182,19 +147,8 @@ impl<S: PageStore, D: LogDevice, G: Ledger> Held<S, D, G> {
         ensures step { Step self.old.engine.state (event.Commit txn) (reply_of answer.Logged result)
             self.new.engine.state }
         ensures store { self.new.engine.store ≡ self.old.engine.store }
-        ensures refused { IfErr result (λ why. ¬ IsUnsure why
-            → self.new.engine.device ≡ self.old.engine.device) }
-        ensures called { OnOk result (Forces D.called D.synced self.old.engine self.new.engine) }
-        ensures last_call { IfErr result (λ why. IsUnsure why
-            → FailsForcing D.called D.synced self.old.engine self.new.engine) }
-        ensures no_failure { OnOk result
-            (D.failures self.new.engine.device ≡ D.failures self.old.engine.device) }
-        ensures cause { IfErr result (λ why. IsUnsure why
-            → D.failures self.old.engine.device < D.failures self.new.engine.device) }
-        ensures same_bound { D.fails_from self.new.engine.device
-            ≡ D.fails_from self.old.engine.device }
-        ensures past_bound { IfErr result (λ why. IsUnsure why
-            → D.fails_from self.old.engine.device ≤ end self.new.engine.state) }
+        ensures device { ForcesDevice D.called D.synced D.failures D.fails_from self.old.engine
+            result self.new.engine }
     {
         self.engine.commit(txn)
     }
@@ -213,20 +167,9 @@ impl<S: PageStore, D: LogDevice, G: Ledger> Held<S, D, G> {
     pub fn undo_step(&mut self, txn: TxnNo) -> Result<Undone, Refusal>
         ensures step { Step self.old.engine.state (event.UndoStep txn) (reply_of undo_answer result)
             self.new.engine.state }
-        ensures store { ¬ Fetches self.old.engine.state (event.UndoStep txn)
-            → self.new.engine.store ≡ self.old.engine.store }
-        ensures store_refused { IfErr result (λ why. ¬ IsByStore why
-            → self.new.engine.store ≡ self.old.engine.store) }
-        ensures asked { OnOk result (Asks S.gave S.wrote S.grew
-            (asked self.old.engine.state (event.UndoStep txn)) self.old.engine
-            self.new.engine) }
-        ensures failed { IfErr result (λ why. IsByStore why → FailsAsking S.gave S.wrote S.grew
-            (asked self.old.engine.state (event.UndoStep txn)) self.old.engine
-            self.new.engine) }
-        ensures no_store_failure { OnOk result
-            (S.failures self.new.engine.store ≡ S.failures self.old.engine.store) }
-        ensures store_cause { IfErr result (λ why. IsByStore why
-            → S.failures self.old.engine.store < S.failures self.new.engine.store) }
+        ensures store { AsksStore S.gave S.wrote S.grew S.failures
+            (asked self.old.engine.state (event.UndoStep txn)) self.old.engine result
+            self.new.engine }
         ensures device { self.new.engine.device ≡ self.old.engine.device }
     {
         self.engine.undo_step(txn)
@@ -246,20 +189,9 @@ impl<S: PageStore, D: LogDevice, G: Ledger> Held<S, D, G> {
     pub fn undo_to(&mut self, txn: TxnNo, savepoint: Lsn) -> Result<SteppedBack, Refusal>
         ensures step { Step self.old.engine.state (event.UndoTo txn savepoint)
             (reply_of step_back_answer result) self.new.engine.state }
-        ensures store { ¬ Fetches self.old.engine.state (event.UndoTo txn savepoint)
-            → self.new.engine.store ≡ self.old.engine.store }
-        ensures store_refused { IfErr result (λ why. ¬ IsByStore why
-            → self.new.engine.store ≡ self.old.engine.store) }
-        ensures asked { OnOk result (Asks S.gave S.wrote S.grew
-            (asked self.old.engine.state (event.UndoTo txn savepoint)) self.old.engine
-            self.new.engine) }
-        ensures failed { IfErr result (λ why. IsByStore why → FailsAsking S.gave S.wrote S.grew
-            (asked self.old.engine.state (event.UndoTo txn savepoint)) self.old.engine
-            self.new.engine) }
-        ensures no_store_failure { OnOk result
-            (S.failures self.new.engine.store ≡ S.failures self.old.engine.store) }
-        ensures store_cause { IfErr result (λ why. IsByStore why
-            → S.failures self.old.engine.store < S.failures self.new.engine.store) }
+        ensures store { AsksStore S.gave S.wrote S.grew S.failures
+            (asked self.old.engine.state (event.UndoTo txn savepoint)) self.old.engine result
+            self.new.engine }
         ensures device { self.new.engine.device ≡ self.old.engine.device }
     {
         self.engine.undo_to(txn, savepoint)

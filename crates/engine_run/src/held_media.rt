@@ -1,14 +1,12 @@
 //! The calls of a shared engine that write pages, take checkpoints and make copies, and that grow
 //! its volume.
 
-ghost use Rattle.std.specs.Prelude.{ℕ, ◌≡◌, ◌<◌, ◌≤◌, length, IfErr, IfOk, OnErr, OnOk};
+ghost use Rattle.std.specs.Prelude.{◌≡◌, length, IfErr, IfOk};
 ghost use Rattle.copy_vault.specs.Vault.{IsOfId, OpenRefuses, complete, complete_refusal};
 ghost use Rattle.copy_vault.specs.Vault.{pages_read, state_of};
-ghost use Rattle.engine_rules.specs.Asked.{Asks, FailsAsking, asked};
-ghost use Rattle.engine_rules.specs.EngineState.{end};
-ghost use Rattle.engine_rules.specs.Step.{FailsForcing, Forces, IsByDevice, IsByStore, Step};
-ghost use Rattle.engine_rules.specs.Step.{reply_of};
-ghost use Rattle.engine_rules.specs.Step.{gather_answer, took_answer};
+ghost use Rattle.engine_rules.specs.Asked.{asked};
+ghost use Rattle.engine_rules.specs.Step.{Step, gather_answer, reply_of, took_answer};
+ghost use Rattle.engine_rules.specs.Uses.{AsksStore, ForcesDevice};
 ghost use Rattle.engine_calls.specs.declared.event.Answer.TheVariants as answer;
 ghost use Rattle.engine_calls.specs.declared.event.Event.TheVariants as event;
 ghost use Rattle.engine_run.specs.Work.{copy_event};
@@ -28,16 +26,8 @@ impl<S: PageStore, D: LogDevice, G: Ledger> Held<S, D, G> {
         ensures step { Step self.old.engine.state event.Force (reply_of answer.Forced result)
             self.new.engine.state }
         ensures store { self.new.engine.store ≡ self.old.engine.store }
-        ensures called { OnOk result (Forces D.called D.synced self.old.engine self.new.engine) }
-        ensures last_call { OnErr result (FailsForcing D.called D.synced self.old.engine self.new.engine) }
-        ensures no_failure { OnOk result
-            (D.failures self.new.engine.device ≡ D.failures self.old.engine.device) }
-        ensures cause { OnErr result
-            (D.failures self.old.engine.device < D.failures self.new.engine.device) }
-        ensures same_bound { D.fails_from self.new.engine.device
-            ≡ D.fails_from self.old.engine.device }
-        ensures past_bound { OnErr result
-            (D.fails_from self.old.engine.device ≤ end self.new.engine.state) }
+        ensures device { ForcesDevice D.called D.synced D.failures D.fails_from self.old.engine
+            result self.new.engine }
     {
         self.engine.force()
     }
@@ -47,19 +37,8 @@ impl<S: PageStore, D: LogDevice, G: Ledger> Held<S, D, G> {
         ensures step { Step self.old.engine.state (event.WriteBegin page)
             (reply_of answer.Writing result) self.new.engine.state }
         ensures store { self.new.engine.store ≡ self.old.engine.store }
-        ensures refused { IfErr result (λ why. ¬ IsByDevice why
-            → self.new.engine.device ≡ self.old.engine.device) }
-        ensures called { OnOk result (Forces D.called D.synced self.old.engine self.new.engine) }
-        ensures last_call { IfErr result (λ why. IsByDevice why
-            → FailsForcing D.called D.synced self.old.engine self.new.engine) }
-        ensures no_failure { OnOk result
-            (D.failures self.new.engine.device ≡ D.failures self.old.engine.device) }
-        ensures cause { IfErr result (λ why. IsByDevice why
-            → D.failures self.old.engine.device < D.failures self.new.engine.device) }
-        ensures same_bound { D.fails_from self.new.engine.device
-            ≡ D.fails_from self.old.engine.device }
-        ensures past_bound { IfErr result (λ why. IsByDevice why
-            → D.fails_from self.old.engine.device ≤ end self.new.engine.state) }
+        ensures device { ForcesDevice D.called D.synced D.failures D.fails_from self.old.engine
+            result self.new.engine }
     {
         self.engine.write_begin(page)
     }
@@ -69,18 +48,9 @@ impl<S: PageStore, D: LogDevice, G: Ledger> Held<S, D, G> {
         ensures step { Step self.old.engine.state (event.WriteEnd page)
             (reply_of answer.Written result) self.new.engine.state }
         ensures device { self.new.engine.device ≡ self.old.engine.device }
-        ensures refused { IfErr result (λ why. ¬ IsByStore why
-            → self.new.engine.store ≡ self.old.engine.store) }
-        ensures asked { OnOk result (Asks S.gave S.wrote S.grew
-            (asked self.old.engine.state (event.WriteEnd page)) self.old.engine
-            self.new.engine) }
-        ensures failed { IfErr result (λ why. IsByStore why → FailsAsking S.gave S.wrote S.grew
-            (asked self.old.engine.state (event.WriteEnd page)) self.old.engine
-            self.new.engine) }
-        ensures no_failure { OnOk result
-            (S.failures self.new.engine.store ≡ S.failures self.old.engine.store) }
-        ensures cause { IfErr result (λ why. IsByStore why
-            → S.failures self.old.engine.store < S.failures self.new.engine.store) }
+        ensures store { AsksStore S.gave S.wrote S.grew S.failures
+            (asked self.old.engine.state (event.WriteEnd page)) self.old.engine result
+            self.new.engine }
     {
         self.engine.write_end(page)
     }
@@ -111,19 +81,8 @@ impl<S: PageStore, D: LogDevice, G: Ledger> Held<S, D, G> {
             (reply_of (λ p. answer.Point p.begin p.end p.redo) result) self.new.engine.state }
         ensures noted { IfOk result (λ p. self.new.engine.state.master ≡ Some p) }
         ensures store { self.new.engine.store ≡ self.old.engine.store }
-        ensures refused { IfErr result (λ why. ¬ IsByDevice why
-            → self.new.engine.device ≡ self.old.engine.device) }
-        ensures called { OnOk result (Forces D.called D.synced self.old.engine self.new.engine) }
-        ensures last_call { IfErr result (λ why. IsByDevice why
-            → FailsForcing D.called D.synced self.old.engine self.new.engine) }
-        ensures no_failure { OnOk result
-            (D.failures self.new.engine.device ≡ D.failures self.old.engine.device) }
-        ensures cause { IfErr result (λ why. IsByDevice why
-            → D.failures self.old.engine.device < D.failures self.new.engine.device) }
-        ensures same_bound { D.fails_from self.new.engine.device
-            ≡ D.fails_from self.old.engine.device }
-        ensures past_bound { IfErr result (λ why. IsByDevice why
-            → D.fails_from self.old.engine.device ≤ end self.new.engine.state) }
+        ensures device { ForcesDevice D.called D.synced D.failures D.fails_from self.old.engine
+            result self.new.engine }
     {
         self.engine.ckpt_end()
     }
@@ -178,18 +137,9 @@ impl<S: PageStore, D: LogDevice, G: Ledger> Held<S, D, G> {
         ensures step { Step self.old.engine.state (event.Take copy page)
             (reply_of took_answer result) self.new.engine.state }
         ensures device { self.new.engine.device ≡ self.old.engine.device }
-        ensures store_refused { IfErr result (λ why. ¬ IsByStore why
-            → self.new.engine.store ≡ self.old.engine.store) }
-        ensures asked { OnOk result (Asks S.gave S.wrote S.grew
-            (asked self.old.engine.state (event.Take copy page)) self.old.engine
-            self.new.engine) }
-        ensures failed { IfErr result (λ why. IsByStore why → FailsAsking S.gave S.wrote S.grew
-            (asked self.old.engine.state (event.Take copy page)) self.old.engine
-            self.new.engine) }
-        ensures no_store_failure { OnOk result
-            (S.failures self.new.engine.store ≡ S.failures self.old.engine.store) }
-        ensures store_cause { IfErr result (λ why. IsByStore why
-            → S.failures self.old.engine.store < S.failures self.new.engine.store) }
+        ensures store { AsksStore S.gave S.wrote S.grew S.failures
+            (asked self.old.engine.state (event.Take copy page)) self.old.engine result
+            self.new.engine }
     {
         self.engine.take(copy, page)
     }
@@ -230,36 +180,11 @@ impl<S: PageStore, D: LogDevice, G: Ledger> Held<S, D, G> {
     pub fn repair(&mut self, copy: CopyId, page: PageNo) -> Result<Lsn, Refusal>
         ensures step { Step self.old.engine.state (event.Repair copy page)
             (reply_of answer.Repaired result) self.new.engine.state }
-        ensures refused { IfErr result (λ why. ¬ IsByDevice why → ¬ IsByStore why
-            → self.new.engine.device ≡ self.old.engine.device) }
-        ensures called { OnOk result (Forces D.called D.synced self.old.engine self.new.engine) }
-        ensures forced_first { IfErr result (λ why. IsByStore why
-            → Forces D.called D.synced self.old.engine self.new.engine) }
-        ensures last_call { IfErr result (λ why. IsByDevice why
-            → FailsForcing D.called D.synced self.old.engine self.new.engine) }
-        ensures no_failure { OnOk result
-            (D.failures self.new.engine.device ≡ D.failures self.old.engine.device) }
-        ensures sound { IfErr result (λ why. ¬ IsByDevice why
-            → D.failures self.new.engine.device ≡ D.failures self.old.engine.device) }
-        ensures cause { IfErr result (λ why. IsByDevice why
-            → D.failures self.old.engine.device < D.failures self.new.engine.device) }
-        ensures same_bound { D.fails_from self.new.engine.device
-            ≡ D.fails_from self.old.engine.device }
-        ensures past_bound { IfErr result (λ why. IsByDevice why
-            → D.fails_from self.old.engine.device ≤ end self.new.engine.state) }
-
-        ensures store_refused { IfErr result (λ why. ¬ IsByStore why
-            → self.new.engine.store ≡ self.old.engine.store) }
-        ensures asked { OnOk result (Asks S.gave S.wrote S.grew
-            (asked self.old.engine.state (event.Repair copy page)) self.old.engine
-            self.new.engine) }
-        ensures failed { IfErr result (λ why. IsByStore why → FailsAsking S.gave S.wrote S.grew
-            (asked self.old.engine.state (event.Repair copy page)) self.old.engine
-            self.new.engine) }
-        ensures no_store_failure { OnOk result
-            (S.failures self.new.engine.store ≡ S.failures self.old.engine.store) }
-        ensures store_cause { IfErr result (λ why. IsByStore why
-            → S.failures self.old.engine.store < S.failures self.new.engine.store) }
+        ensures device { ForcesDevice D.called D.synced D.failures D.fails_from self.old.engine
+            result self.new.engine }
+        ensures store { AsksStore S.gave S.wrote S.grew S.failures
+            (asked self.old.engine.state (event.Repair copy page)) self.old.engine result
+            self.new.engine }
     {
         self.engine.repair(copy, page)
     }
@@ -270,18 +195,9 @@ impl<S: PageStore, D: LogDevice, G: Ledger> Held<S, D, G> {
         ensures step { Step self.old.engine.state (event.Extend count)
             (reply_of answer.Logged result) self.new.engine.state }
         ensures device { self.new.engine.device ≡ self.old.engine.device }
-        ensures store_refused { IfErr result (λ why. ¬ IsByStore why
-            → self.new.engine.store ≡ self.old.engine.store) }
-        ensures asked { OnOk result (Asks S.gave S.wrote S.grew
-            (asked self.old.engine.state (event.Extend count)) self.old.engine
-            self.new.engine) }
-        ensures failed { IfErr result (λ why. IsByStore why → FailsAsking S.gave S.wrote S.grew
-            (asked self.old.engine.state (event.Extend count)) self.old.engine
-            self.new.engine) }
-        ensures no_store_failure { OnOk result
-            (S.failures self.new.engine.store ≡ S.failures self.old.engine.store) }
-        ensures store_cause { IfErr result (λ why. IsByStore why
-            → S.failures self.old.engine.store < S.failures self.new.engine.store) }
+        ensures store { AsksStore S.gave S.wrote S.grew S.failures
+            (asked self.old.engine.state (event.Extend count)) self.old.engine result
+            self.new.engine }
     {
         self.engine.extend(count)
     }

@@ -1,5 +1,4 @@
 use Rattle.std.proofs.Common.{◌≡◌, ◌<◌, length, get_or, refl, sym, ap, subst, ◌∙◌, arith}
-use Rattle.std.specs.Prelude.{Ok, Err}
 use Rattle.page_core.specs.Page.{formatted}
 use Rattle.buffer_pool.specs.Frames.{fetched}
 use Rattle.buffer_pool.specs.Pool.{PoolView, is_clean, written_of}
@@ -12,9 +11,6 @@ use Rattle.engine_rules.specs.EngineView.{EngineView, engine_view}
 use Rattle.engine_rules.specs.EngineState.{volume_pages}
 use Rattle.aries_core.specs.OpenCkpt.{media_view}
 use Rattle.aries_core.proofs.Appends.{after_fetch, appended_is, valid_with}
-use Rattle.engine_calls.specs.declared.refusal.Refusal.TheVariants.{StoreFault}
-use Rattle.engine_rules.specs.Asked.{page_asked}
-use Rattle.engine_rules.specs.Uses.{AsksStore}
 use Rattle.aries_core.proofs.Asks.{failing, page_came, page_failed, said, why_failed}
 use Rattle.engine_rules.proofs.Public.{comes, comes_few}
 use Rattle.aries_core.proofs.PoolStates.{fetched_is}
@@ -168,15 +164,11 @@ returns-clause-ok g c =
 pub returns-clause-store : goal.returns-clause-store
 returns-clause-store g c =
     let it = c.self.inside in
-    let store = g.S.PageStore in
     let media = media_view it.master it.session it.vault.copies it.returns.made in
     let p = c.args.page in
-    let new = engine_view store.stored c.append-2.new.self c.change.new.self media in
     let ok = sym c.is_err-2.ensures.value ∙ c.if-is_err-4.false in
-    subst (λ (v : EngineView g.row.S.Denot g.row.D.Denot).
-    AsksStore store.gave store.wrote store.grew store.failures (page_asked v.state p) v (Ok tt) new) c.self.view_is
-    (page_came store.stored store.gave store.wrote store.grew store.failures it.log it.pool
-    c.make_room-else-is_err-2.new.self media new p c.fetch.new.self.store
+    rw (← c.self.view_is)
+    (page_came g.S.PageStore.stored it.log it.pool c.make_room-else-is_err-2.new.self media _ p c.fetch.new.self.store
     (omega (arith, c.requires.within, ap (λ v. volume_pages v.state) c.self.view_is, c.self.invariant.pool_of_log.pages))
     (sym c.is_resident.ensures ∙ c.if-is_resident.false) c.make_room-else-is_err-2.ensures.same c.change.ensures.store tt
     (said c.fetch.result _ ok c.fetch.ensures.gave (formatted p)) (said c.fetch.result _ ok c.fetch.ensures.no_failure))
@@ -184,15 +176,11 @@ returns-clause-store g c =
 pub returns-then-is_err-4-clause-store : goal.returns-then-is_err-4-clause-store
 returns-then-is_err-4-clause-store g c =
     let it = c.self.inside in
-    let store = g.S.PageStore in
     let media = media_view it.master it.session it.vault.copies it.returns.made in
-    let p = c.args.page in
-    let new = engine_view store.stored c.make_room.new.self c.fetch.new.self media in
     let err = sym c.is_err-2.ensures.value ∙ c.if-is_err-4.true in
-    subst (λ (v : EngineView g.row.S.Denot g.row.D.Denot).
-    AsksStore store.gave store.wrote store.grew store.failures (page_asked v.state p) v (Err StoreFault) new) c.self.view_is
-    (page_failed store.stored store.gave store.wrote store.grew store.failures it.log it.pool
-    c.make_room-else-is_err-2.new.self media new p c.fetch.new.self.store
+    rw (← c.self.view_is)
+    (page_failed g.S.PageStore.stored it.log it.pool c.make_room-else-is_err-2.new.self media _ c.args.page
+    c.fetch.new.self.store
     (omega (arith, c.requires.within, ap (λ v. volume_pages v.state) c.self.view_is, c.self.invariant.pool_of_log.pages))
     (sym c.is_resident.ensures ∙ c.if-is_resident.false) c.make_room-else-is_err-2.ensures.same refl
     (why_failed c.fetch.result _ err c.fetch.ensures.failed) (failing c.fetch.result _ err c.fetch.ensures.failure))

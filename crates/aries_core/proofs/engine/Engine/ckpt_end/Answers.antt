@@ -10,9 +10,8 @@ use Rattle.engine_rules.specs.EngineView.{EngineView, engine_view}
 use Rattle.aries_core.specs.OpenCkpt.{media_view, view_of}
 use Rattle.engine_rules.specs.Refusal.{refusal}
 use Rattle.engine_rules.specs.Step.{Step}
-use Rattle.engine_rules.specs.Uses.{ForcesDevice}
 use Rattle.aries_core.proofs.CkptCalls.{ckpt_ended, ckpt_unforced, session_covered, whole_covered}
-use Rattle.aries_core.proofs.Uses.{not_forced, was_forced}
+use Rattle.aries_core.proofs.Uses.{force_failed, was_forced}
 use Rattle.std.proofs.Common.{arith, length}
 use Rattle.std.proofs.lemmas.List.{length-take}
 use Rattle.aries_core.proofs.engine.Engine.ckpt_end.Goals as goal
@@ -86,33 +85,17 @@ returns-clause-step g c =
 
 pub returns-in-Err-LogFault-clause-device : goal.returns-in-Err-LogFault-clause-device
 returns-in-Err-LogFault-clause-device g c =
-    let it = c.self.inside in
-    let stored = g.S.PageStore.stored in
-    let device = g.D.LogDevice in
-    let new = engine_view stored c.finish.new.log it.pool
-    (media_view it.master c.take.new.self it.vault.copies it.returns.made) in
     let by_device : IsLogFault c.in-Err-LogFault.field-0 =
     subst IsLogFault (sym c.in-Err-LogFault.field-0-is) tt in
     let said = c.in-Err-LogFault.ensures in
-    subst (λ (v : EngineView g.row.S.Denot g.row.D.Denot).
-    ForcesDevice device.called device.synced device.failures device.fails_from v (Err LogFault) new) c.self.view_is
-    (not_forced device.called device.synced device.failures device.fails_from
-    (engine_view stored it.log it.pool (media_view it.master it.session it.vault.copies it.returns.made)) new
-    c.finish.ensures.same_bound LogFault tt (said.last_call by_device) (said.cause by_device) (said.past_bound by_device))
+    rw (← c.self.view_is)
+    (force_failed LogFault tt (said.last_call by_device) (said.cause by_device) c.finish.ensures.same_bound
+    (said.past_bound by_device))
 
 pub returns-clause-device : goal.returns-clause-device
 returns-clause-device g c =
-    let it = c.self.inside in
-    let stored = g.S.PageStore.stored in
-    let device = g.D.LogDevice in
-    let point = c.in-Ok.point in
-    let new = engine_view stored c.finish.new.log it.pool
-    (media_view (Some point) c.take.new.self it.vault.copies it.returns.made) in
-    subst (λ (v : EngineView g.row.S.Denot g.row.D.Denot).
-    ForcesDevice device.called device.synced device.failures device.fails_from v (Ok point) new) c.self.view_is
-    (was_forced device.called device.synced device.failures device.fails_from
-    (engine_view stored it.log it.pool (media_view it.master it.session it.vault.copies it.returns.made)) new
-    c.finish.ensures.same_bound point c.in-Ok.ensures.called c.in-Ok.ensures.no_failure)
+    rw (← c.self.view_is)
+    (was_forced c.in-Ok.point c.in-Ok.ensures.called c.in-Ok.ensures.no_failure c.finish.ensures.same_bound)
 
 pub finish-requires-clause-covered : goal.finish-requires-clause-covered
 finish-requires-clause-covered g c =

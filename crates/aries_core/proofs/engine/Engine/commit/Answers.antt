@@ -4,7 +4,7 @@ use Rattle.log_records.specs.declared.record.Record.{Record}
 use Rattle.engine_rules.specs.EngineState.{EngineState, appended, end}
 use Rattle.engine_rules.specs.EngineView.{EngineView}
 use Rattle.engine_calls.specs.declared.refusal.Refusal.TheVariants.{CommitUnsure}
-use Rattle.aries_core.proofs.Uses.{not_forced, was_forced}
+use Rattle.aries_core.proofs.Uses.{force_failed, was_forced}
 use Rattle.aries_core.proofs.engine.Engine.commit.Goals as goal
 
 pub append-requires-clause-called : goal.append-requires-clause-called
@@ -27,19 +27,15 @@ same_end old mid r is = ap (λ (s : EngineState). s.forced_end) is
 
 pub returns-in-Ok-clause-device : goal.returns-in-Ok-clause-device
 returns-in-Ok-clause-device g c =
-    let device = g.D.LogDevice in
     let end = same_end c.args.self.now c.append.new.self _ c.in_ok-append.ensures.ok in
-    was_forced device.called device.synced device.failures device.fails_from c.args.self.now c.force_log.new.self
-    (c.force_log.ensures.same_bound ∙ ap device.fails_from c.append.ensures.device) c.end-lsn.result
-    (rw (end, c.append.ensures.device) at c.in-Ok.ensures.called)
-    (c.in-Ok.ensures.no_failure ∙ ap device.failures c.append.ensures.device)
+    was_forced c.end-lsn.result (rw (end, c.append.ensures.device) at c.in-Ok.ensures.called)
+    (c.in-Ok.ensures.no_failure ∙ ap g.D.LogDevice.failures c.append.ensures.device)
+    (c.force_log.ensures.same_bound ∙ ap g.D.LogDevice.fails_from c.append.ensures.device)
 
 pub returns-in-Err-clause-device : goal.returns-in-Err-clause-device
 returns-in-Err-clause-device g c =
-    let device = g.D.LogDevice in
     let end = same_end c.args.self.now c.append.new.self _ c.in_ok-append.ensures.ok in
-    not_forced device.called device.synced device.failures device.fails_from c.args.self.now c.force_log.new.self
-    (c.force_log.ensures.same_bound ∙ ap device.fails_from c.append.ensures.device) (CommitUnsure c.end-lsn.result) tt
-    (rw (end, c.append.ensures.device) at c.in-Err.ensures.last_call)
-    (omega (arith, c.in-Err.ensures.cause, ap device.failures c.append.ensures.device))
-    (omega (arith, c.in-Err.ensures.past_bound, ap device.fails_from c.append.ensures.device))
+    force_failed (CommitUnsure c.end-lsn.result) tt (rw (end, c.append.ensures.device) at c.in-Err.ensures.last_call)
+    (omega (arith, c.in-Err.ensures.cause, ap g.D.LogDevice.failures c.append.ensures.device))
+    (c.force_log.ensures.same_bound ∙ ap g.D.LogDevice.fails_from c.append.ensures.device)
+    (omega (arith, c.in-Err.ensures.past_bound, ap g.D.LogDevice.fails_from c.append.ensures.device))

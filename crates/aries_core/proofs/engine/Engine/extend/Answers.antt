@@ -1,4 +1,4 @@
-use Rattle.std.proofs.Common.{◌≡◌, ℕ, ◌≤◌, true, false, [], ◌∷◌, length, refl, sym, ap, subst, ◌∙◌, arith}
+use Rattle.std.proofs.Common.{◌≡◌, ℕ, ◌≤◌, false, [], ◌∷◌, length, refl, sym, ap, subst, ◌∙◌, arith}
 use Rattle.std.specs.Prelude.{None, Result, Ok, Err, is_err}
 use Rattle.std.proofs.lemmas.List.{length-take}
 use Rattle.log_records.specs.declared.record.Record.TheVariants.{Extend}
@@ -12,8 +12,6 @@ use Rattle.engine_rules.specs.EngineView.{EngineView, IsConsistent, engine_view}
 use Rattle.aries_core.specs.OpenCkpt.{media_view}
 use Rattle.engine_rules.specs.Refusal.{refusal}
 use Rattle.engine_rules.specs.Step.{Step}
-use Rattle.engine_rules.specs.Asked.{to_grow}
-use Rattle.engine_rules.specs.Uses.{AsksStore}
 use Rattle.aries_core.proofs.Asks.{failing, said}
 use Rattle.aries_core.proofs.Uses.{was_asked}
 use Rattle.aries_core.proofs.Extends.{extended_is, kept_extended, unextended_is}
@@ -118,15 +116,8 @@ returns-clause-step g c =
 
 pub returns-clause-store : goal.returns-clause-store
 returns-clause-store g c =
-    let it = c.self.inside in
-    let store = g.S.PageStore in
-    let media = media_view it.master it.session it.vault.copies it.returns.made in
     let ok = sym c.is_err-2.ensures.value ∙ c.if-is_err-2.false in
-    let new = engine_view store.stored c.append.new.self c.grow.new.self media in
-    subst (λ (v : EngineView g.row.S.Denot g.row.D.Denot).
-    AsksStore store.gave store.wrote store.grew store.failures (to_grow c.args.count) v (Ok c.end-lsn.result) new)
-    c.self.view_is
-    (was_asked store.gave store.wrote store.grew store.failures (to_grow c.args.count)
-    (engine_view store.stored it.log it.pool media) new c.end-lsn.result
-    (subst (λ (r : Result Unit StoreFault). store.grew it.pool.store c.args.count r c.grow.new.self.store)
+    rw (← c.self.view_is)
+    (was_asked c.end-lsn.result
+    (subst (λ (r : Result Unit StoreFault). g.S.PageStore.grew c.self.inside.pool.store c.args.count r c.grow.new.self.store)
     (is_done c.grow.result ok) c.grow.ensures.grew) (said c.grow.result _ ok c.grow.ensures.no_failure))

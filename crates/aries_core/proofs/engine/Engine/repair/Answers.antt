@@ -5,17 +5,16 @@ use Rattle.page_core.specs.declared.page.Page.{Page}
 use Rattle.log_records.specs.declared.record.Record.{Record}
 use Rattle.log_records.specs.Coverage.{IsPast}
 use Rattle.log_records.specs.Image.{image}
+use Rattle.log_records.specs.Log.{Log}
 use Rattle.log_records.proofs.Public.{number-image}
 use Rattle.log_store.specs.WrittenLog.{WrittenLog, end_up_to}
 use Rattle.engine_calls.specs.declared.event.Answer.TheVariants as answer
 use Rattle.engine_calls.specs.declared.event.Event.TheVariants as event
 use Rattle.engine_calls.specs.declared.refusal.Refusal.{Refusal}
-use Rattle.engine_rules.specs.EngineState.{log_of, page_now}
+use Rattle.engine_rules.specs.EngineState.{log_of}
 use Rattle.engine_rules.specs.EngineView.{EngineView, engine_view}
 use Rattle.engine_rules.specs.Refusal.{refusal}
 use Rattle.engine_rules.specs.Step.{Step, reply_of}
-use Rattle.engine_rules.specs.Asked.{asked}
-use Rattle.engine_rules.specs.Uses.{AsksStore, ForcesDevice}
 use Rattle.page_store.specs.declared.store.StoreFault.{StoreFault}
 use Rattle.aries_core.specs.OpenCkpt.{media_view}
 use Rattle.engine_rules.proofs.Public.{repair_passes}
@@ -150,79 +149,42 @@ returns-clause-step g c =
 pub returns-clause-store : goal.returns-clause-store
 returns-clause-store g c =
     let it = c.self.inside in
-    let store = g.S.PageStore in
-    let media = media_view it.master it.session it.vault.copies it.returns.made in
+    let wrote = g.S.PageStore.wrote in
     let p = c.args.page in
-    let copy = c.args.copy in
-    let now = engine_view store.stored it.log it.pool media in
     let q = c.roll_forward.new.page in
-    let new = engine_view store.stored c.force_to.new.self c.repair.new.self media in
     let past = subst (λ (v : EngineView g.row.S.Denot g.row.D.Denot). IsPast v.state.log p c.in_ok-rebuilt.rebuilt)
     (sym c.self.view_is) c.in_ok-rebuilt.ensures.past in
-    let same : q ≡ page_now now.state p =
+    let same : q ≡ image it.log.log.records p =
     rolled_is it.log.log.records p c.in_ok-rebuilt.rebuilt q c.roll_forward.result
     (sym c.is_err.ensures.value ∙ c.if-is_err.false) past c.roll_forward.ensures.image in
-    subst (λ (v : EngineView g.row.S.Denot g.row.D.Denot).
-    AsksStore store.gave store.wrote store.grew store.failures (asked v.state (event.Repair copy p)) v c.match-repair.result
-    new) c.self.view_is
+    rw (← c.self.view_is)
     (elim c.match-repair.branch [
       | in-Ok w ↦
-          subst (λ (r : Result Lsn Refusal). AsksStore store.gave store.wrote store.grew store.failures
-          (asked now.state (event.Repair copy p)) now r new) (sym w.result-is)
-          (was_asked store.gave store.wrote store.grew store.failures (asked now.state (event.Repair copy p)) now new _
-          (subst (λ (x : Page). store.wrote it.pool.store p x (Ok tt) c.repair.new.self.store) same w.in-Ok.ensures.wrote)
-          w.in-Ok.ensures.no_failure)
+          rw w.result-is
+          (was_asked _ (subst (λ (x : Page). wrote it.pool.store p x (Ok tt) c.repair.new.self.store) same
+          w.in-Ok.ensures.wrote) w.in-Ok.ensures.no_failure)
       | in-Err w ↦
-          subst (λ (r : Result Lsn Refusal). AsksStore store.gave store.wrote store.grew store.failures
-          (asked now.state (event.Repair copy p)) now r new) (sym w.result-is)
-          (asked_in_vain store.gave store.wrote store.grew store.failures (asked now.state (event.Repair copy p)) now new
-          (subst (λ (x : Page). (why : StoreFault) × store.wrote it.pool.store p x (Err why) c.repair.new.self.store)
+          rw w.result-is
+          (asked_in_vain (subst (λ (x : Page). (why : StoreFault) × wrote it.pool.store p x (Err why) c.repair.new.self.store)
           same (_, w.in-Err.ensures.wrote)) w.in-Err.ensures.failure)
     ])
 
 pub returns-then-is_err-2-clause-device : goal.returns-then-is_err-2-clause-device
 returns-then-is_err-2-clause-device g c =
-    let it = c.self.inside in
-    let device = g.D.LogDevice in
-    let media = media_view it.master it.session it.vault.copies it.returns.made in
     let err = sym c.is_err-2.ensures.value ∙ c.if-is_err-2.true in
-    let log = c.roll_forward.new.self in
-    let new = engine_view g.S.PageStore.stored c.force_to.new.self it.pool media in
-    subst (λ (v : EngineView g.row.S.Denot g.row.D.Denot).
-    ForcesDevice device.called device.synced device.failures device.fails_from v (Err LogFault) new) c.self.view_is
-    (subst (λ (w : WrittenLog g.row.D.Denot).
-    ForcesDevice device.called device.synced device.failures device.fails_from
-    (engine_view g.S.PageStore.stored w it.pool media) (Err LogFault) new) c.roll_forward.ensures.same
-    (force_failed device.called device.synced device.failures device.fails_from g.S.PageStore.stored log
-    c.force_to.new.self it.pool media _ c.force_to.ensures.same c.force_to.ensures.same_bound
-    (failing c.force_to.result _ err c.force_to.ensures.last_call) (failing c.force_to.result _ err c.force_to.ensures.failure)
-    (failing c.force_to.result _ err c.force_to.ensures.past_bound)))
+    let records = ap (λ (l : Log). length l.records) c.force_to.ensures.same in
+    rw (← c.self.view_is, ← c.roll_forward.ensures.same)
+    (force_failed LogFault tt (failing c.force_to.result _ err c.force_to.ensures.last_call)
+    (failing c.force_to.result _ err c.force_to.ensures.failure) c.force_to.ensures.same_bound
+    (omega (arith, records, failing c.force_to.result _ err c.force_to.ensures.past_bound)))
 
 pub returns-clause-device : goal.returns-clause-device
 returns-clause-device g c =
-    let it = c.self.inside in
-    let device = g.D.LogDevice in
-    let stored = g.S.PageStore.stored in
-    let media = media_view it.master it.session it.vault.copies it.returns.made in
     let ok = sym c.is_err-2.ensures.value ∙ c.if-is_err-2.false in
-    let old = engine_view stored c.roll_forward.new.self it.pool media in
-    let new = engine_view stored c.force_to.new.self c.repair.new.self media in
     let forced = said c.force_to.result _ ok c.force_to.ensures.called in
     let quiet = said c.force_to.result _ ok c.force_to.ensures.no_failure in
-    subst (λ (v : EngineView g.row.S.Denot g.row.D.Denot).
-    ForcesDevice device.called device.synced device.failures device.fails_from v c.match-repair.result new) c.self.view_is
-    (subst (λ (w : WrittenLog g.row.D.Denot).
-    ForcesDevice device.called device.synced device.failures device.fails_from
-    (engine_view stored w it.pool media) c.match-repair.result new) c.roll_forward.ensures.same
+    rw (← c.self.view_is, ← c.roll_forward.ensures.same)
     (elim c.match-repair.branch [
-      | in-Ok w ↦
-          subst (λ (r : Result Lsn Refusal).
-          ForcesDevice device.called device.synced device.failures device.fails_from old r new) (sym w.result-is)
-          (was_forced device.called device.synced device.failures device.fails_from old new c.force_to.ensures.same_bound _
-          forced quiet)
-      | in-Err w ↦
-          subst (λ (r : Result Lsn Refusal).
-          ForcesDevice device.called device.synced device.failures device.fails_from old r new) (sym w.result-is)
-          (was_forced_first device.called device.synced device.failures device.fails_from old new c.force_to.ensures.same_bound
-          forced quiet)
-    ]))
+      | in-Ok w ↦ rw w.result-is (was_forced _ forced quiet c.force_to.ensures.same_bound)
+      | in-Err w ↦ rw w.result-is (was_forced_first forced quiet c.force_to.ensures.same_bound)
+    ])

@@ -1,5 +1,5 @@
 use Rattle.std.proofs.Common.{arith, ◌≡◌, ◌∙◌, sym, ap, subst, refl}
-use Rattle.std.specs.Prelude.{None, Ok, Result}
+use Rattle.std.specs.Prelude.{None, Ok}
 use Rattle.engine_calls.specs.declared.event.Event.TheVariants as event
 use Rattle.engine_rules.specs.EngineState.{log_of}
 use Rattle.engine_rules.specs.EngineView.{engine_view}
@@ -15,11 +15,6 @@ use Rattle.aries_core.proofs.engine.Engine.take.Goals.{in-Kept, in-Taken}
 use Rattle.page_core.specs.declared.page.Page.{Page}
 use Rattle.page_core.specs.Page.{formatted}
 use Rattle.buffer_pool.proofs.Public.{read_is}
-use Rattle.engine_calls.specs.declared.event.Took.{Took}
-use Rattle.engine_calls.specs.declared.refusal.Refusal.{Refusal}
-use Rattle.engine_rules.specs.Asked.{a_page}
-use Rattle.engine_rules.specs.Uses.{AsksStore}
-use Rattle.engine_rules.specs.EngineView.{EngineView}
 use Rattle.aries_core.proofs.Uses.{was_asked}
 use Rattle.aries_core.proofs.PoolStates.{page_at}
 use Rattle.std.proofs.Common.{◌<◌, length}
@@ -102,10 +97,7 @@ pub returns-clause-store : goal.returns-clause-store
 returns-clause-store g c =
     let it = c.self.inside in
     let stored = g.S.PageStore.stored in
-    let store = g.S.PageStore in
     let p = c.args.page in
-    let new = engine_view stored it.log c.stored.new.self
-    (media_view it.master it.session c.decide.new.self.copies it.returns.made) in
     let media = media_view it.master it.session it.vault.copies it.returns.made in
     let s = (engine_view stored it.log it.pool media).state in
     let none : refusal s (event.Take c.args.copy c.args.page) ≡ None =
@@ -121,21 +113,14 @@ returns-clause-store g c =
       count_below-not_more (log_of s) passes.view.begin,
       c.self.invariant.pool_of_log.pages,
     ) in
-    let of : (done : Took) → AsksStore store.gave store.wrote store.grew store.failures (a_page p) c.args.self.now (Ok done) new =
-    λ done. subst (λ (v : EngineView g.row.S.Denot g.row.D.Denot).
-    AsksStore store.gave store.wrote store.grew store.failures (a_page p) v (Ok done) new) c.self.view_is
-    (was_asked store.gave store.wrote store.grew store.failures (a_page p) (engine_view stored it.log it.pool media) new done
-    (subst (λ (x : Page). store.gave it.pool.store p (Ok x) c.stored.new.self.store)
+    let asks = subst (λ (x : Page). g.S.PageStore.gave it.pool.store p (Ok x) c.stored.new.self.store)
     (read_is (stored it.pool.store) p c.in-Ok.stored (formatted p) c.in-Ok.ensures.found
-    ∙ sym (page_at stored it.log it.pool media p within)) c.in-Ok.ensures.gave) c.in-Ok.ensures.no_failure) in
-    elim c.match-decide.branch [
-      | in-Taken w ↦
-          subst (λ (r : Result Took Refusal).
-          AsksStore store.gave store.wrote store.grew store.failures (a_page p) c.args.self.now r new) (sym w.result-is) (of _)
-      | in-Kept w ↦
-          subst (λ (r : Result Took Refusal).
-          AsksStore store.gave store.wrote store.grew store.failures (a_page p) c.args.self.now r new) (sym w.result-is) (of _)
-    ]
+    ∙ sym (page_at stored it.log it.pool media p within)) c.in-Ok.ensures.gave in
+    rw (← c.self.view_is)
+    (elim c.match-decide.branch [
+      | in-Taken w ↦ rw w.result-is (was_asked _ asks c.in-Ok.ensures.no_failure)
+      | in-Kept w ↦ rw w.result-is (was_asked _ asks c.in-Ok.ensures.no_failure)
+    ])
 
 pub stored-requires : goal.stored-requires
 stored-requires g c =

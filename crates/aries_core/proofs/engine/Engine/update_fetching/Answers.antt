@@ -1,6 +1,5 @@
 use Rattle.engine_rules.specs.EngineState.{appended, with_page}
-use Rattle.std.proofs.Common.{◌≡◌, ◌<◌, ◌++◌, ◌∷◌, [], ℕ, length, get_or, refl, sym, ap, subst, ◌∙◌, arith, false, true}
-use Rattle.std.specs.Prelude.{Ok, Err}
+use Rattle.std.proofs.Common.{◌≡◌, ◌<◌, ◌++◌, ◌∷◌, [], ℕ, length, get_or, refl, sym, ap, subst, ◌∙◌, arith, false}
 use Rattle.page_core.specs.declared.page.Page.{Page}
 use Rattle.page_core.specs.Page.{formatted}
 use Rattle.buffer_pool.specs.Frames.{fetched, is_resident}
@@ -16,9 +15,6 @@ use Rattle.engine_rules.specs.EngineState.{EngineState, end, log_of}
 use Rattle.engine_rules.specs.EngineView.{EngineView, IsConsistent, engine_view}
 use Rattle.aries_core.specs.OpenCkpt.{media_view}
 use Rattle.aries_core.proofs.Appends.{after_fetch, appended_is, valid_with}
-use Rattle.engine_calls.specs.declared.refusal.Refusal.TheVariants.{StoreFault}
-use Rattle.engine_rules.specs.Asked.{page_asked}
-use Rattle.engine_rules.specs.Uses.{AsksStore}
 use Rattle.aries_core.proofs.Asks.{failing, page_came, page_failed, said, why_failed}
 use Rattle.engine_rules.proofs.Public.{Comes, comes, comes_few}
 use Rattle.engine_rules.proofs.Public.{slot_passes}
@@ -364,48 +360,37 @@ invariant_of-self-2 g c =
 pub returns-clause-store : goal.returns-clause-store
 returns-clause-store g c =
     let it = c.self.inside in
-    let store = g.S.PageStore in
     let media = media_view it.master it.session it.vault.copies it.returns.made in
     let p = c.args.page in
-    let absent : is_resident it.pool.resident p ≡ false =
-    subst (λ (v : EngineView g.row.S.Denot g.row.D.Denot). is_resident v.state.resident p ≡ false) (sym c.self.view_is)
-    c.requires.absent in
-    let new = engine_view store.stored c.append.new.self c.change.new.self media in
     let ok = sym c.is_err-3.ensures.value ∙ c.if-is_err-4.false in
-    subst (λ (v : EngineView g.row.S.Denot g.row.D.Denot).
-    AsksStore store.gave store.wrote store.grew store.failures (page_asked v.state p) v (Ok c.end-lsn.result) new)
-    c.self.view_is
-    (page_came store.stored store.gave store.wrote store.grew store.failures it.log it.pool
-    c.make_room-else-is_err.new.self media new p c.fetch.new.self.store
+    rw (← c.self.view_is)
+    (page_came g.S.PageStore.stored it.log it.pool c.make_room-else-is_err.new.self media _ p c.fetch.new.self.store
     (omega (
       arith,
       (slot_passes c.args.self.now.state p c.args.slot c.requires.place).within,
       ap (λ (v : EngineView g.row.S.Denot g.row.D.Denot). volume_pages v.state) c.self.view_is,
       c.self.invariant.pool_of_log.pages,
-    )) absent c.make_room-else-is_err.ensures.same c.change.ensures.store c.end-lsn.result
+    ))
+    (ap (λ (v : EngineView g.row.S.Denot g.row.D.Denot). is_resident v.state.resident p) c.self.view_is ∙ c.requires.absent)
+    c.make_room-else-is_err.ensures.same c.change.ensures.store c.end-lsn.result
     (said c.fetch.result _ ok c.fetch.ensures.gave (formatted p)) (said c.fetch.result _ ok c.fetch.ensures.no_failure))
 
 pub returns-then-is_err-4-clause-store : goal.returns-then-is_err-4-clause-store
 returns-then-is_err-4-clause-store g c =
     let it = c.self.inside in
-    let store = g.S.PageStore in
     let media = media_view it.master it.session it.vault.copies it.returns.made in
     let p = c.args.page in
-    let absent : is_resident it.pool.resident p ≡ false =
-    subst (λ (v : EngineView g.row.S.Denot g.row.D.Denot). is_resident v.state.resident p ≡ false) (sym c.self.view_is)
-    c.requires.absent in
-    let new = engine_view store.stored c.make_room.new.self c.fetch.new.self media in
     let err = sym c.is_err-3.ensures.value ∙ c.if-is_err-4.true in
-    subst (λ (v : EngineView g.row.S.Denot g.row.D.Denot).
-    AsksStore store.gave store.wrote store.grew store.failures (page_asked v.state p) v (Err StoreFault) new) c.self.view_is
-    (page_failed store.stored store.gave store.wrote store.grew store.failures it.log it.pool
-    c.make_room-else-is_err.new.self media new p c.fetch.new.self.store
+    rw (← c.self.view_is)
+    (page_failed g.S.PageStore.stored it.log it.pool c.make_room-else-is_err.new.self media _ p c.fetch.new.self.store
     (omega (
       arith,
       (slot_passes c.args.self.now.state p c.args.slot c.requires.place).within,
       ap (λ (v : EngineView g.row.S.Denot g.row.D.Denot). volume_pages v.state) c.self.view_is,
       c.self.invariant.pool_of_log.pages,
-    )) absent c.make_room-else-is_err.ensures.same refl
+    ))
+    (ap (λ (v : EngineView g.row.S.Denot g.row.D.Denot). is_resident v.state.resident p) c.self.view_is ∙ c.requires.absent)
+    c.make_room-else-is_err.ensures.same refl
     (why_failed c.fetch.result _ err c.fetch.ensures.failed) (failing c.fetch.result _ err c.fetch.ensures.failure))
 
 pub returns-clause-ok : goal.returns-clause-ok

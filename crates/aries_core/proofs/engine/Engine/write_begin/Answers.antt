@@ -1,7 +1,8 @@
 use Rattle.std.proofs.Common.{◌≡◌, ℕ, ◌<◌, length, max, sym, ap, subst, ◌∙◌, arith}
-use Rattle.std.specs.Prelude.{None, Ok, Err}
+use Rattle.std.specs.Prelude.{None, Ok}
 use Rattle.page_core.specs.declared.page.Page.{Page}
 use Rattle.buffer_pool.specs.Pool.{state_at, with_state, write_begun}
+use Rattle.log_records.specs.Log.{Log}
 use Rattle.log_store.specs.WrittenLog.{end_up_to}
 use Rattle.engine_calls.specs.declared.event.Answer.TheVariants as answer
 use Rattle.engine_calls.specs.declared.event.Event.TheVariants as event
@@ -10,7 +11,6 @@ use Rattle.engine_rules.specs.EngineState.{log_of}
 use Rattle.engine_rules.specs.EngineView.{EngineView, engine_view}
 use Rattle.engine_rules.specs.Refusal.{refusal}
 use Rattle.engine_rules.specs.Step.{Step}
-use Rattle.engine_rules.specs.Uses.{ForcesDevice}
 use Rattle.aries_core.specs.OpenCkpt.{media_view}
 use Rattle.engine_rules.proofs.Public.{write_begin_passes}
 use Rattle.aries_core.proofs.Asks.{failing, said}
@@ -21,30 +21,19 @@ use Rattle.aries_core.proofs.engine.Engine.write_begin.Goals as goal
 
 pub returns-then-is_err-clause-device : goal.returns-then-is_err-clause-device
 returns-then-is_err-clause-device g c =
-    let it = c.self.inside in
-    let device = g.D.LogDevice in
-    let media = media_view it.master it.session it.vault.copies it.returns.made in
     let err = sym c.is_err.ensures.value ∙ c.if-is_err.true in
-    subst (λ (v : EngineView g.row.S.Denot g.row.D.Denot).
-    ForcesDevice device.called device.synced device.failures device.fails_from v (Err LogFault)
-    (engine_view g.S.PageStore.stored c.force_to.new.self it.pool media)) c.self.view_is
-    (force_failed device.called device.synced device.failures device.fails_from g.S.PageStore.stored it.log
-    c.force_to.new.self it.pool media _ c.force_to.ensures.same c.force_to.ensures.same_bound
-    (failing c.force_to.result _ err c.force_to.ensures.last_call) (failing c.force_to.result _ err c.force_to.ensures.failure)
-    (failing c.force_to.result _ err c.force_to.ensures.past_bound))
+    let records = ap (λ (l : Log). length l.records) c.force_to.ensures.same in
+    rw (← c.self.view_is)
+    (force_failed LogFault tt (failing c.force_to.result _ err c.force_to.ensures.last_call)
+    (failing c.force_to.result _ err c.force_to.ensures.failure) c.force_to.ensures.same_bound
+    (omega (arith, records, failing c.force_to.result _ err c.force_to.ensures.past_bound)))
 
 pub returns-clause-device : goal.returns-clause-device
 returns-clause-device g c =
-    let it = c.self.inside in
-    let device = g.D.LogDevice in
-    let media = media_view it.master it.session it.vault.copies it.returns.made in
     let ok = sym c.is_err.ensures.value ∙ c.if-is_err.false in
-    let new = engine_view g.S.PageStore.stored c.force_to.new.self c.write_begin.new.self media in
-    subst (λ (v : EngineView g.row.S.Denot g.row.D.Denot).
-    ForcesDevice device.called device.synced device.failures device.fails_from v (Ok c.write_begin.result) new) c.self.view_is
-    (was_forced device.called device.synced device.failures device.fails_from
-    (engine_view g.S.PageStore.stored it.log it.pool media) new c.force_to.ensures.same_bound c.write_begin.result
-    (said c.force_to.result _ ok c.force_to.ensures.called) (said c.force_to.result _ ok c.force_to.ensures.no_failure))
+    rw (← c.self.view_is)
+    (was_forced c.write_begin.result (said c.force_to.result _ ok c.force_to.ensures.called)
+    (said c.force_to.result _ ok c.force_to.ensures.no_failure) c.force_to.ensures.same_bound)
 
 -- a page of which a write begins is dirty, so it is in memory
 pub image_of-requires : goal.image_of-requires

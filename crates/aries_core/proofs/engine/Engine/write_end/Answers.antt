@@ -8,8 +8,6 @@ use Rattle.engine_rules.specs.EngineState.{log_of}
 use Rattle.engine_rules.specs.EngineView.{EngineView, engine_view}
 use Rattle.engine_rules.specs.Refusal.{refusal}
 use Rattle.engine_rules.specs.Step.{Step, reply_of}
-use Rattle.engine_rules.specs.Asked.{asked}
-use Rattle.engine_rules.specs.Uses.{AsksStore}
 use Rattle.aries_core.proofs.Asks.{asks_to_store, fails_to_store}
 use Rattle.aries_core.specs.OpenCkpt.{media_view}
 use Rattle.engine_rules.proofs.Public.{write_end_passes}
@@ -81,20 +79,14 @@ returns-clause-store g c =
     let count = c.self.invariant.pool_of_log.pages in
     let below = (write_end_passes now.state p none).within in
     let within : p < length it.pool.states = omega arith in
-    subst (λ (v : EngineView g.row.S.Denot g.row.D.Denot).
-    AsksStore store.gave store.wrote store.grew store.failures (asked v.state (event.WriteEnd p)) v c.match-write_end.result
-    new) c.self.view_is
+    rw (← c.self.view_is)
     (elim c.match-write_end.branch [
       | in-Ok w ↦
-          subst (λ (r : Result Lsn Refusal). AsksStore store.gave store.wrote store.grew store.failures
-          (asked now.state (event.WriteEnd p)) now r new) (sym w.result-is)
-          (was_asked store.gave store.wrote store.grew store.failures (asked now.state (event.WriteEnd p)) now new w.in-Ok.lsn
-          (asks_to_store store.stored store.gave store.wrote store.grew it.log it.pool media new p none within
-          w.in-Ok.ensures.wrote) w.in-Ok.ensures.no_failure)
+          rw w.result-is
+          (was_asked w.in-Ok.lsn (asks_to_store store.stored store.gave store.wrote store.grew it.log it.pool media new p none
+          within w.in-Ok.ensures.wrote) w.in-Ok.ensures.no_failure)
       | in-Err w ↦
-          subst (λ (r : Result Lsn Refusal). AsksStore store.gave store.wrote store.grew store.failures
-          (asked now.state (event.WriteEnd p)) now r new) (sym w.result-is)
-          (asked_in_vain store.gave store.wrote store.grew store.failures (asked now.state (event.WriteEnd p)) now new
-          (fails_to_store store.stored store.gave store.wrote store.grew it.log it.pool media new p none within _
-          w.in-Err.ensures.failed) w.in-Err.ensures.failure)
+          rw w.result-is
+          (asked_in_vain (fails_to_store store.stored store.gave store.wrote store.grew it.log it.pool media new p none within
+          _ w.in-Err.ensures.failed) w.in-Err.ensures.failure)
     ])
