@@ -24,11 +24,11 @@ use Rattle.engine_calls.specs.declared.refusal.Refusal.TheVariants.{CommitUnsure
 use Rattle.engine_calls.specs.declared.refusal.Refusal.TheVariants.{OutOfMemory, StoreFault}
 use Rattle.engine_rules.specs.Accepted.{shown_call}
 use Rattle.engine_rules.specs.EngineState.{EngineState, IsFit, Outcome, appended, commit_record}
-use Rattle.engine_rules.specs.EngineState.{begun_write, ckpt_end_effect, closed, comp_record}
-use Rattle.engine_rules.specs.EngineState.{effect, end, end_ckpt_record, end_record, ended_write}
-use Rattle.engine_rules.specs.EngineState.{extend_record, forced_through, forced_to, gathering}
-use Rattle.engine_rules.specs.EngineState.{image_of, log_of, page_needed, page_now, taken_back}
-use Rattle.engine_rules.specs.EngineState.{undid, volume_pages, with_copies, with_page, with_stored}
+use Rattle.engine_rules.specs.EngineState.{begun_write, ckpt_end_effect, closed, effect, end}
+use Rattle.engine_rules.specs.EngineState.{end_ckpt_record, end_record, ended_write, extend_record}
+use Rattle.engine_rules.specs.EngineState.{forced_through, forced_to, gathering, image_of, log_of}
+use Rattle.engine_rules.specs.EngineState.{page_needed, page_now, taken_back, undid, volume_pages}
+use Rattle.engine_rules.specs.EngineState.{with_copies, with_page, with_stored}
 use Rattle.engine_rules.specs.Gather.{Left, none_left, txns_left}
 use Rattle.engine_rules.specs.Refusal.{refusal}
 use Rattle.engine_rules.specs.Step.{Fails, ForcedPart, MayBeStored, Step}
@@ -39,8 +39,8 @@ use Rattle.engine_rules.proofs.Gathers.{AreGathered, PassesPages, PassesTxns, Ta
 use Rattle.engine_rules.proofs.Gathers.{WasDone, ckpt_end_is, closed_part, gather_case}
 use Rattle.engine_rules.proofs.Gathers.{passes_pages, passes_txns, takes_pages, takes_txn, was_done}
 use Rattle.engine_rules.proofs.GatherSteps.{pages_passed, txns_passed}
-use Rattle.engine_rules.proofs.Makes.{BeginsNoCkpt, IsBeside, IsNoGrowth, Makes, MakesEndChkpt}
-use Rattle.engine_rules.proofs.Makes.{left_with, makes}
+use Rattle.engine_rules.proofs.Makes.{BeginsNoCkpt, IsBeside, IsNoGrowth, Makes, MakesComp}
+use Rattle.engine_rules.proofs.Makes.{MakesEnd, MakesEndChkpt, left_with, makes, taken_is_last}
 use Rattle.engine_rules.proofs.Refusals.{CkptEnds, WriteEnds, back_passes, ckpt_end_passes}
 use Rattle.engine_rules.proofs.Refusals.{commit_not_unsure, drop_passes, full_is_few, full_passes}
 use Rattle.engine_rules.proofs.Refusals.{gather_passes, inc_is_few, inc_passes, repair_passes}
@@ -171,12 +171,10 @@ undo_moves : (old : EngineState) (txn : ℕ) (reply : Answer) (o : Option Pendin
     → Moves old (event.UndoStep txn) (Ok reply) (option_map_or (undid old txn) o
     (record { answer = answer.Ended (end old); state = appended old (end_record old txn) })).state
 undo_moves old txn reply None last none =
-    Adds _ Here (makes old (event.UndoStep txn) (end_record old txn) none
-    (ap (λ o. Some (option_map_or (comp_record old txn) o (end_record old txn))) last)) tt tt refl Done
+    Adds _ Here (MakesEnd txn (undo_passes old txn none) last) tt tt refl Done
 undo_moves old txn reply (Some p) last none =
     Adds _ (Fetched p.page none (ap (option_map (λ q. q.page)) last))
-    (makes old (event.UndoStep txn) (comp_record old txn p) none
-    (ap (λ o. Some (option_map_or (comp_record old txn) o (end_record old txn))) last)) tt refl
+    (MakesComp txn p (undo_passes old txn none).still_open last) tt refl
     (ap (λ b. Some (cond b (UndoCall txn) (UndoToCall txn))) (sym (undo_passes old txn none).rolling)) Done
 
 back_moves : (old : EngineState) (txn at : ℕ) (reply : Answer) (o : Option PendingChange)
@@ -188,7 +186,7 @@ back_moves old txn at reply None taken none given =
     Keeps Here (ap (λ (a : Answer). shown_call (event.UndoTo txn at) (Ok a)) given) Done
 back_moves old txn at reply (Some p) taken none given =
     Adds _ (Fetched p.page none (ap (option_map (λ q. q.page)) taken))
-    (makes old (event.UndoTo txn at) (comp_record old txn p) none (ap (option_map (comp_record old txn)) taken)) tt refl
+    (MakesComp txn p (back_passes old txn at none).still_open (taken_is_last old txn at p taken)) tt refl
     (ap (λ (a : Answer). shown_call (event.UndoTo txn at) (Ok a)) given
     ∙ ap (λ b. Some (cond b (UndoCall txn) (UndoToCall txn))) (sym (back_passes old txn at none).active)) Done
 
