@@ -15,6 +15,7 @@ use Rattle.image_copies.specs.declared.copy_id.CopyKind.{CopyKind}
 use Rattle.image_copies.specs.declared.copy_id.CopyKind.TheVariants.{Inc}
 use Rattle.image_copies.specs.declared.copy_id.TheConstants.{MAX_COPIES}
 use Rattle.image_copies.specs.Copy.{CopyView}
+use Rattle.copy_vault.specs.Vault.{opened as opened_with}
 use Rattle.copy_vault.specs.Vault.{CopyState, HasParent, complete, decided, dropped, state_of}
 use Rattle.copy_coverage.specs.Copied.{AreCopied, IsPoint, copy_in}
 use Rattle.copy_coverage.proofs.Public.{copied_decided, copied_opened, count_below-not_more}
