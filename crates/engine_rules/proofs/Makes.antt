@@ -34,21 +34,21 @@ use Rattle.engine_rules.proofs.Refusals.{HasRoomFor, RollsIn, active_passes, bac
 use Rattle.engine_rules.proofs.Refusals.{begin_passes, change_passes, ckpt_begin_passes}
 use Rattle.engine_rules.proofs.Refusals.{ckpt_end_passes, extend_passes, gather_passes, undo_passes}
 
--- ---- events that leave something as it is
+-- ---- kinds of events
 
--- the volume
+-- the volume keeps its page count
 abbrev pub IsNoGrowth : Event → Type 0
 IsNoGrowth (event.Extend count) = ⊥
 IsNoGrowth other = Unit {0}
 
--- the checkpoints
+-- it is none on checkpoints
 abbrev pub IsBeside : Event → Type 0
 IsBeside event.CkptBegin = ⊥
 IsBeside event.CkptGather = ⊥
 IsBeside event.CkptEnd = ⊥
 IsBeside other = Unit {0}
 
--- the volume, and none of its checkpoints begins
+-- the volume keeps its page count, and no checkpoint begins
 abbrev pub BeginsNoCkpt : Event → Type 0
 BeginsNoCkpt event.CkptBegin = ⊥
 BeginsNoCkpt (event.Extend count) = ⊥

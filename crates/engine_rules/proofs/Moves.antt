@@ -1,4 +1,6 @@
 -- The moves of an engine: each step is at most one record at the end of the log, and a few moves behind it.
+-- What holds after every step is proved by the moves, so only here, of all lemmas on steps, does each event have its
+-- case.
 use Rattle.std.proofs.Common.{◌≡◌, ℕ, ◌<◌, ◌≤◌, ◌⊎◌, List, cond, set, refl, sym, ap, subst, ◌∙◌}
 use Rattle.std.proofs.Common.{arith, inl, inr}
 use Rattle.std.specs.Prelude.{Option, Some, None, IfSome, IsSome, IsSomeAnd, Result, Ok, Err}
