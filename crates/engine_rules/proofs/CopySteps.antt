@@ -24,7 +24,7 @@ use Rattle.engine_calls.specs.declared.event.Event.TheVariants as event
 use Rattle.engine_rules.specs.EngineState.{EngineState, IsFit, IsMasterOf, log_of, stored_page}
 use Rattle.engine_rules.specs.EngineState.{opened_copy}
 use Rattle.engine_rules.specs.Refusal.{refusal}
-use Rattle.engine_rules.proofs.Refusals.{inc_passes, take_passes}
+use Rattle.engine_rules.proofs.CopyPasses.{inc_passes, take_passes}
 use Rattle.log_records.specs.Log.{page_count_below}
 
 -- ---- a copy begins

@@ -4,6 +4,7 @@ pub mod Catalogues
 pub mod CkptFits
 pub mod CkptLaws
 pub mod Commits
+pub mod CopyPasses
 pub mod CopyRefusals
 pub mod CopySteps
 pub mod Fit

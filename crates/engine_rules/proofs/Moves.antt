@@ -44,9 +44,12 @@ use Rattle.engine_rules.proofs.GatherSteps.{pages_passed, txns_passed}
 use Rattle.engine_rules.proofs.Makes.{BeginsNoCkpt, IsBeside, IsNoGrowth, Makes, MakesComp}
 use Rattle.engine_rules.proofs.Makes.{MakesEnd, MakesEndChkpt, left_with, makes, taken_is_last}
 use Rattle.engine_rules.proofs.Refusals.{CkptEnds, WriteEnds, back_passes, ckpt_end_passes}
-use Rattle.engine_rules.proofs.Refusals.{commit_not_unsure, drop_passes, full_is_few, full_passes}
-use Rattle.engine_rules.proofs.Refusals.{gather_passes, inc_is_few, inc_passes, repair_passes}
-use Rattle.engine_rules.proofs.Refusals.{seal_passes, take_passes, undo_passes, write_begin_passes}
+use Rattle.engine_rules.proofs.Refusals.{commit_not_unsure}
+use Rattle.engine_rules.proofs.CopyPasses.{drop_passes, full_is_few, full_passes}
+use Rattle.engine_rules.proofs.Refusals.{gather_passes}
+use Rattle.engine_rules.proofs.CopyPasses.{inc_is_few, inc_passes, repair_passes}
+use Rattle.engine_rules.proofs.Refusals.{undo_passes, write_begin_passes}
+use Rattle.engine_rules.proofs.CopyPasses.{seal_passes, take_passes}
 use Rattle.engine_rules.proofs.Refusals.{write_end_passes}
 
 -- ---- what replies leave as it is

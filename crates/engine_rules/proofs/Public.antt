@@ -11,6 +11,8 @@ pub use Rattle.engine_rules.proofs.CkptLaws.{new_is_sized}
 -- The Commits that were answered, in the log after a run and in what a crash leaves of it.
 pub use Rattle.engine_rules.proofs.Commits.{IsForcedIn, commits_are_kept, forced_later, longer}
 pub use Rattle.engine_rules.proofs.Commits.{stays_forced, stays_kept}
+-- When calls on copies, and a repair, are not refused.
+pub use Rattle.engine_rules.proofs.CopyPasses.{repair_passes, take_passes}
 -- Each engine is fit: a new one, and one after a step.
 pub use Rattle.engine_rules.proofs.Fit.{Comes, comes, comes_few, comes_with, fit_appended}
 pub use Rattle.engine_rules.proofs.Fit.{fit_of_run, fit_of_step, new_is_fit}
@@ -37,8 +39,8 @@ pub use Rattle.engine_rules.proofs.Plays.{Tells, by_device, by_store, left_sound
 pub use Rattle.engine_rules.proofs.Plays.{run_push, tells_push, within_push}
 -- What an event that is not refused has passed.
 pub use Rattle.engine_rules.proofs.Refusals.{ckpt_begin_passes, ckpt_end_passes, extend_passes}
-pub use Rattle.engine_rules.proofs.Refusals.{gather_passes, repair_passes, slot_passes, take_passes}
-pub use Rattle.engine_rules.proofs.Refusals.{write_begin_passes, write_end_passes}
+pub use Rattle.engine_rules.proofs.Refusals.{gather_passes, slot_passes, write_begin_passes}
+pub use Rattle.engine_rules.proofs.Refusals.{write_end_passes}
 -- An engine that goes on where an older one was lost is fit.
 pub use Rattle.engine_rules.proofs.Resuming.{resumed_fit, resumed_is, session_for}
 -- Laws of steps, over whole runs.
