@@ -27,7 +27,7 @@ play_killed() {
     local there=$folder/killed torn commit
     mkdir "$there" || fail "$there cannot be made"
     echo "The same bank on files, with no end to its transfers. It is killed as soon as two copies are in place:"
-    echo "\$ bank --files $there 7 5 3 2 1000000"
+    echo "\$ demo_bank --files $there 7 5 3 2 1000000"
     "$bank" --files "$there" 7 5 3 2 1000000 > "$folder/told" &
     for ((look = 0; look < 600; look++)); do
         ! grep -q '^copy 2 on 1$' "$folder/told" || break
@@ -66,7 +66,7 @@ A bank has 64 accounts with 100000 each, $sum in all, on 8 of 12 pages. At the s
 one account to another, a flusher writes pages, a checkpointer takes checkpoints, and three workers make a full copy,
 then two an incremental one. At the end five transfers are left open, and a crash takes the last of their records. The
 lines are the same each time, but for those of the pages that tellers changed behind a copy: these hang on the schedule.
-\$ bank --behind --save $folder 7 5 3 2
+\$ demo_bank --behind --save $folder 7 5 3 2
 END
 "$bank" --behind --save "$folder" 7 5 3 2 > "$folder/lines" || fail "the bank ended with status $?"
 sed -e '/^copy 1, full/ s/$/   (made beside the tellers)/' \

@@ -1,4 +1,4 @@
-//! Each public item by the crate that offers it, whichever crate below has made it. A crate that no
+//! Public items by the crate that offers them, whichever crate below has made them. A crate that no
 //! longer passes on an item of its surface fails the check here.
 #![tactic(auto)]
 

@@ -1,3 +1,5 @@
 //! The table of open transactions.
 
-pub use txn_table::{Return, Returns, TxnTable};
+pub use txn_table::{
+    Losers, OpenEntry, OpenTransactions, Pending, Return, Returns, TxnState, TxnTable,
+};
