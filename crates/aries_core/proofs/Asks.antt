@@ -32,13 +32,6 @@ pub why_failed : {T E : Type 0} (r : Result T E) (P : E → Type 0) → is_err r
 why_failed (Ok x) P err h = cc
 why_failed (Err e) P err h = (e, h)
 
--- a page that is in memory is not asked for
-pub asks_nothing : {S D : Type 0} (gave : ReadCall S) (wrote : WriteCall S) (grew : GrowCall S) (old new : EngineView S D) (page : ℕ)
-    → is_resident old.state.resident page ≡ true → new.store ≡ old.store
-    → Asks gave wrote grew (page_asked old.state page) old new
-asks_nothing gave wrote grew old new page there same =
-    subst (λ (b : Bool). Asks gave wrote grew (cond b nothing (a_page page)) old new) (sym there) same
-
 -- one that is not there was read from the store, of a pool that had made room for it, or that call failed
 module _ {S D T : Type 0} (stored : S → List Page) {gave : ReadCall S} {wrote : WriteCall S} {grew : GrowCall S}
     {failures : S → ℕ} (it : WrittenLog D) (pool roomy : PoolView S) (media : MediaView) (new : EngineView S D) (page : ℕ)

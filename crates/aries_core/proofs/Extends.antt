@@ -1,16 +1,15 @@
 -- The call that grows the volume: what the engine is after it.
 use Rattle.std.proofs.Common.{◌≡◌, ℕ, ◌-◌, ◌<◌, ◌≤◌, List, [], ◌∷◌, ◌++◌, length, get_or, map, replicate, take, refl, sym, ap, ◌∙◌}
-use Rattle.std.proofs.Common.{arith, inl, inr, true, false}
-use Rattle.std.specs.Prelude.{Some, None}
+use Rattle.std.proofs.Common.{arith, inl, inr}
+use Rattle.std.specs.Prelude.{None}
 use Rattle.std.specs.List.{range_with_len}
-use Rattle.std.proofs.lemmas.Bool.{cases_lt, le-leb, le-ltb, lt-leb, lt-ltb}
+use Rattle.std.proofs.lemmas.Bool.{cases_lt}
 use Rattle.std.proofs.lemmas.List.{get_or_append_left, get_or-append_right, get_or-take, length-append, length-map}
 use Rattle.std.proofs.lemmas.List.{length-take, same_lists, take-append-le}
 use Rattle.std.proofs.lemmas.List.FromFn.{get_or-map-range_with_len, length-map-range_with_len}
 use Rattle.page_core.specs.declared.page.Page.{Page}
 use Rattle.page_core.specs.Page.{formatted}
 use Rattle.page_core.specs.Volume.{grown_to}
-use Rattle.page_core.specs.declared.page.TheConstants.{MAX_PAGES}
 use Rattle.page_core.proofs.Public.{length-grown_to}
 use Rattle.page_store.specs.Store.{IsGrown}
 use Rattle.log_records.specs.declared.limits.TheConstants.{MAX_RECORDS}
@@ -24,11 +23,9 @@ use Rattle.buffer_pool.proofs.Public.{length-extended, map-extended}
 use Rattle.buffer_pool.proofs.Public.{none_changes}
 use Rattle.fuzzy_ckpt.proofs.Public.{open_grown}
 use Rattle.engine_calls.specs.declared.event.Event.TheVariants as event
-use Rattle.engine_calls.specs.declared.refusal.Refusal.TheVariants.{LogFull, NotLarger}
 use Rattle.engine_rules.specs.EngineState.{EngineState, end, extend_record, log_of}
 use Rattle.engine_rules.specs.EngineView.{IsConsistent, MediaView, engine_view}
-use Rattle.engine_rules.specs.EngineState.{volume_pages}
-use Rattle.engine_rules.specs.Refusal.{has_no_room, refusal}
+use Rattle.engine_rules.specs.Refusal.{refusal}
 use Rattle.aries_core.proofs.Appends.{session_later}
 use Rattle.engine_rules.proofs.Public.{extended, extended_fit}
 use Rattle.engine_rules.proofs.Public.{extend_passes}
@@ -172,21 +169,3 @@ unextended_is {S = S} stored it new pool after media same forced enough grown re
     }
 
 -- ---- its refusals
-
-pub not_more : (s : EngineState) (count : ℕ) → count ≤ volume_pages s
-    → refusal s (event.Extend count) ≡ Some (NotLarger (volume_pages s))
-not_more s count le = rw (le-leb count (volume_pages s) le) refl
-
-pub too_many : (s : EngineState) (count : ℕ) → volume_pages s < count → MAX_PAGES < count
-    → refusal s (event.Extend count) ≡ Some (NotLarger (volume_pages s))
-too_many s count more many = rw (lt-leb count (volume_pages s) more, lt-ltb MAX_PAGES count many) refl
-
-pub growth_is_full : (s : EngineState) (count : ℕ) → volume_pages s < count → count ≤ MAX_PAGES
-    → has_no_room s 1 ≡ true → refusal s (event.Extend count) ≡ Some LogFull
-growth_is_full s count more few full =
-    rw (lt-leb count (volume_pages s) more, le-ltb MAX_PAGES count few, full) refl
-
-pub may_extend : (s : EngineState) (count : ℕ) → volume_pages s < count → count ≤ MAX_PAGES
-    → has_no_room s 1 ≡ false → refusal s (event.Extend count) ≡ None
-may_extend s count more few room =
-    rw (lt-leb count (volume_pages s) more, le-ltb MAX_PAGES count few, room) refl

@@ -1,8 +1,8 @@
 -- What the pool says of the engine's state.
 use Rattle.std.proofs.Common.{◌≡◌, ℕ, ◌<◌, ◌≤◌, Bool, true, false, List, [], ◌∷◌, zero, suc, length, replicate, set}
-use Rattle.std.proofs.Common.{cond, get_or, map, refl, sym, ap, ◌∙◌, arith, max, take}
+use Rattle.std.proofs.Common.{get_or, map, refl, sym, ap, ◌∙◌, arith, max, take}
 use Rattle.std.specs.Prelude.{Option, Some, None, is_none, is_some}
-use Rattle.std.proofs.lemmas.Bool.{le-leb, lt-leb}
+use Rattle.std.proofs.lemmas.Bool.{lt-leb}
 use Rattle.std.proofs.lemmas.List.{get_or-map, get_or-take, length-replicate, length-set, map-set, set-get_or, take_all}
 use Rattle.std.proofs.lemmas.List.FromFn.{get_or-map-range_with_len, length-map-range_with_len}
 use Rattle.std.proofs.lemmas.List.{get_or_append_left, get_or-append_right, length-append, length-take, same_lists}
@@ -19,15 +19,14 @@ use Rattle.page_core.specs.Page.{formatted}
 use Rattle.buffer_pool.specs.Pool.{IsPoolOf, PoolView, is_clean, state_at, unwritten, new_pool, with_state, write_begun}
 use Rattle.buffer_pool.specs.Pool.{write_ended}
 use Rattle.buffer_pool.specs.Pool.{writing_of, written_of}
-use Rattle.log_records.specs.Coverage.{rec_lsn}
 use Rattle.log_store.specs.WrittenLog.{WrittenLog, end_up_to}
 use Rattle.copy_vault.specs.Vault.{CopyState, complete_refusal, state_of}
 use Rattle.engine_calls.specs.declared.event.Event.TheVariants as event
-use Rattle.engine_calls.specs.declared.refusal.Refusal.TheVariants.{NoWrite, NotDirty, PageOut, WriteBegun}
+use Rattle.engine_calls.specs.declared.refusal.Refusal.TheVariants.{WriteBegun}
 use Rattle.engine_rules.specs.EngineState.{EngineState, begun_write, ended_write, forced_through}
 use Rattle.engine_rules.specs.EngineView.{MediaView, engine_view}
 use Rattle.engine_rules.specs.EngineState.{image_of}
-use Rattle.engine_rules.specs.EngineState.{new_state, rec_lsn_of, stored_page, with_page, with_stored}
+use Rattle.engine_rules.specs.EngineState.{new_state, stored_page, with_page, with_stored}
 use Rattle.engine_rules.specs.EngineState.{volume_pages}
 use Rattle.buffer_pool.specs.Frames.{fetched, is_resident}
 use Rattle.page_core.specs.Volume.{formatted_pages}
@@ -36,36 +35,10 @@ use Rattle.txn_table.specs.declared.returns.Return.{Return}
 
 -- ---- refusals
 
-pub begin_out : (s : EngineState) (p : ℕ) → volume_pages s ≤ p → refusal s (event.WriteBegin p) ≡ Some PageOut
-begin_out s p past = rw (le-leb (volume_pages s) p past) refl
-
-pub begin_begun : (s : EngineState) (p : ℕ) → p < volume_pages s → is_some (image_of s p) ≡ true
-    → refusal s (event.WriteBegin p) ≡ Some WriteBegun
-begin_begun s p within begun = rw (lt-leb (volume_pages s) p within, begun) refl
-
-pub begin_clean : (s : EngineState) (p : ℕ) → p < volume_pages s → is_some (image_of s p) ≡ false
-    → is_none (rec_lsn_of s p) ≡ true → refusal s (event.WriteBegin p) ≡ Some NotDirty
-begin_clean s p within idle clean = rw (lt-leb (volume_pages s) p within, idle, clean) refl
-
-pub begin_may : (s : EngineState) (p : ℕ) → p < volume_pages s → is_some (image_of s p) ≡ false
-    → is_none (rec_lsn_of s p) ≡ false → refusal s (event.WriteBegin p) ≡ None
-begin_may s p within idle dirty = rw (lt-leb (volume_pages s) p within, idle, dirty) refl
-
 none_by_some : {X : Type 0} (o : Option X) (b : Bool) → is_some o ≡ b
     → is_none o ≡ (elim b as (λ (b : Bool). Bool) [ true ↦ false | false ↦ true ])
 none_by_some None b e = ap (λ (b : Bool). elim b as (λ (b : Bool). Bool) [ true ↦ false | false ↦ true ]) e
 none_by_some (Some x) b e = ap (λ (b : Bool). elim b as (λ (b : Bool). Bool) [ true ↦ false | false ↦ true ]) e
-
-pub end_out : (s : EngineState) (p : ℕ) → volume_pages s ≤ p → refusal s (event.WriteEnd p) ≡ Some PageOut
-end_out s p past = rw (le-leb (volume_pages s) p past) refl
-
-pub end_idle : (s : EngineState) (p : ℕ) → p < volume_pages s → is_some (image_of s p) ≡ false
-    → refusal s (event.WriteEnd p) ≡ Some NoWrite
-end_idle s p within idle = rw (lt-leb (volume_pages s) p within, none_by_some (image_of s p) false idle) refl
-
-pub end_may : (s : EngineState) (p : ℕ) → p < volume_pages s → is_some (image_of s p) ≡ true
-    → refusal s (event.WriteEnd p) ≡ None
-end_may s p within begun = rw (lt-leb (volume_pages s) p within, none_by_some (image_of s p) true begun) refl
 
 pub repair_begun : (s : EngineState) (copy p : ℕ) → complete_refusal (state_of s.copies copy) ≡ None
     → p < volume_pages s → is_some (image_of s p) ≡ true → refusal s (event.Repair copy p) ≡ Some WriteBegun
@@ -80,13 +53,6 @@ repair_may s copy p whole within idle = rw (whole, lt-leb (volume_pages s) p wit
 pub image_at : {S D : Type 0} (stored : S → List Page) (it : WrittenLog D) (pool : PoolView S) (ckpts : MediaView)
     (p : ℕ) → p < length pool.states → image_of (engine_view stored it pool ckpts).state p ≡ (state_at pool p).writing
 image_at stored it pool ckpts p within = get_or-map (λ s. s.writing) pool.states p unwritten None within
-
-pub rec_lsn_at : {S D : Type 0} (stored : S → List Page) (it : WrittenLog D) (pool : PoolView S) (ckpts : MediaView)
-    (p : ℕ) → IsPoolOf stored it.log pool → p < length pool.states
-    → rec_lsn_of (engine_view stored it pool ckpts).state p ≡ (state_at pool p).rec_lsn
-rec_lsn_at stored it pool ckpts p is within =
-    ap (rec_lsn it.log.records p) (get_or-map (λ s. s.written) pool.states p unwritten 0 within)
-    ∙ sym (is.states p unwritten within).dirty
 
 -- ---- what stands after a call
 
@@ -197,12 +163,6 @@ pub stayed_is : {S D : Type 0} (stored : S → List Page) (it mid : WrittenLog D
     → (engine_view stored mid after ckpts).state ≡ (engine_view stored it pool ckpts).state
 stayed_is stored it mid pool after ckpts same end store frames resident states =
     rw (same, end, store, frames, resident, states) refl
-
--- a page that is in memory is not fetched
-pub resident_is : (s : EngineState) (p : ℕ) → is_resident s.resident p ≡ true → s ≡ with_page s p
-resident_is s p there =
-    ap (λ pages. let v : EngineState = record s { resident = pages } in v)
-    (sym (ap (λ b. cond b s.resident (fetched s.frames (is_clean s.log s.written) s.resident (stored_page s p))) there))
 
 -- ---- pages behind the volume
 

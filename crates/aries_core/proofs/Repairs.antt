@@ -21,7 +21,6 @@ use Rattle.engine_calls.specs.declared.refusal.Refusal.TheVariants.{LogFault, St
 use Rattle.engine_rules.specs.EngineState.{EngineState, IsFit, effect, forced_through}
 use Rattle.engine_rules.specs.EngineView.{IsConsistent, MediaView, engine_view}
 use Rattle.engine_rules.specs.EngineState.{log_of, with_stored}
-use Rattle.engine_rules.specs.EngineState.{volume_pages}
 use Rattle.engine_rules.specs.EngineState as engine
 use Rattle.engine_rules.specs.Refusal.{refusal}
 use Rattle.engine_rules.specs.Repair.{MayBeRepaired}

@@ -1,14 +1,13 @@
 -- A copy of an older life is taken up.
-use Rattle.std.proofs.Common.{◌≡◌, ℕ, zero, suc, ◌+◌, ◌-◌, ◌*◌, ◌<◌, ◌≤◌, List, [], ◌∷◌, ◌++◌, append_assoc, get_or, length, replicate, reverse}
+use Rattle.std.proofs.Common.{◌≡◌, ℕ, zero, suc, ◌+◌, ◌-◌, ◌*◌, ◌<◌, ◌≤◌, List, [], ◌∷◌, ◌++◌, append_assoc, length, replicate, reverse}
 use Rattle.std.proofs.Common.{refl, sym, ap, subst, ◌∙◌, arith, inl, inr, take}
 use Rattle.std.specs.Prelude.{Some, None, Result, Ok, Err, OnOk, OnErr, nat_le, nat_lt}
 use Rattle.std.proofs.Common.{Bool, true, false, cond}
 use Rattle.std.proofs.lemmas.Bool.{cases_eq, cases_lt, leb-false, ltb-false}
 use Rattle.std.proofs.lemmas.List.{append-nil, get_or_past, length-append, length-replicate, reverse-append}
 use Rattle.page_core.specs.declared.page.Page.{Page}
-use Rattle.page_core.specs.Page.{formatted}
 use Rattle.log_records.specs.Coverage.{Covers, IsPast}
-use Rattle.log_records.specs.Log.{IsLog, Log, lsn_of, page_count, page_count_below}
+use Rattle.log_records.specs.Log.{IsLog, Log, lsn_of, page_count}
 use Rattle.log_records.specs.Image.{image}
 use Rattle.log_records.specs.declared.record.Record.{Record}
 use Rattle.log_records.proofs.Public.{lsn-image}
@@ -23,13 +22,13 @@ use Rattle.image_copies.specs.Copy.{AreDecidedBelow, CopyView, IsComplete, PageD
 use Rattle.copy_vault.specs.Vault.{CopyState, HasParent, complete, dropped, reading, state_of}
 use Rattle.copy_vault.proofs.Public.{parent_there}
 use Rattle.copy_vault.proofs.Public.{GoesOn}
-use Rattle.copy_coverage.specs.Copied.{AreCopied, AreRestorable, IsCopyOf, IsCovered, IsDecidedIn, StandsOn, copy_in}
+use Rattle.copy_coverage.specs.Copied.{AreCopied, AreRestorable, IsCopyOf, IsCovered, StandsOn, copy_in}
 use Rattle.copy_coverage.proofs.Public.{restorable}
 use Rattle.copy_coverage.proofs.Public.{count_below-not_more, formatted_is_past, later_covers, lsn_of_formatted}
 use Rattle.copy_coverage.proofs.Public.{IsChanged, MayStand, complete_same, copied_changed, opened_changes}
 use Rattle.engine_rules.specs.Resumed.{MayResume}
-use Rattle.engine_restart.specs.Added.{MayAdd, StandsBehind}
-use Rattle.engine_restart.proofs.Stands.{behind_is, behind_stands, content_push}
+use Rattle.engine_restart.specs.Added.{MayAdd}
+use Rattle.engine_restart.proofs.Stands.{behind_is, content_push}
 
 -- ---- the ids that are passed over, and the copy
 

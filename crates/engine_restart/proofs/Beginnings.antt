@@ -1,8 +1,8 @@
 -- Where a copy of an older life began.
-use Rattle.std.proofs.Common.{◌≡◌, ◌↔◌, ◌<◌, ◌≤◌, Bool, true, false, ℕ, length, refl, ap, sym, subst, arith, ◌∙◌}
+use Rattle.std.proofs.Common.{◌≡◌, ◌↔◌, ◌<◌, true, ℕ, length, refl, ap, sym, subst, arith, ◌∙◌}
 use Rattle.std.specs.Prelude.{Option, Some, None, is_some}
 use Rattle.page_core.specs.PageCounts.{count_below}
-use Rattle.log_records.specs.Log.{IsLog, Log, counts_of, lsn_of, page_count_below}
+use Rattle.log_records.specs.Log.{IsLog, Log, counts_of, lsn_of}
 use Rattle.log_records.proofs.Public.{count_below-counts_of}
 use Rattle.log_rules.specs.Linked.{IsLinked}
 use Rattle.log_rules.proofs.Public.{complete-of_end, end-of_complete}

@@ -1,13 +1,11 @@
 -- The table of a log's open transactions, record by record.
 use Rattle.std.proofs.Common.{ℕ, ◌≡◌, ◌+◌, ◌<◌, List, get_or, length, take, ap, subst, sym, ◌∙◌}
-use Rattle.std.proofs.lemmas.List.{take_all}
 use Rattle.log_records.specs.declared.record.Record.{Record}
 use Rattle.log_rules.specs.Linked.{IsLinked}
-use Rattle.log_rules.specs.Table.{MayNote, Table, TxnEntry, noted, table_of}
+use Rattle.log_rules.specs.Table.{MayNote, Table, noted, table_of}
 use Rattle.log_rules.proofs.Public.{may_note}
 use Rattle.log_rules.proofs.Public.{linked-take}
 use Rattle.log_rules.proofs.Public.{table_of_push}
-use Rattle.loser_undo.specs.Losers.{losers_of}
 use Rattle.txn_table.proofs.Public.{next_follows, with_next}
 
 module _ (records : List Record) (i : ℕ) (r : Record) (table : Table) (linked : IsLinked records)

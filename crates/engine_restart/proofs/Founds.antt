@@ -1,6 +1,6 @@
 -- The log in the bytes of a device's file is one of the second format, or not.
-use Rattle.std.proofs.Common.{ℕ, ◌≡◌, ◌<◌, ◌≤◌, List, length, take, ap, sym, ◌∙◌, arith}
-use Rattle.std.specs.Prelude.{Option, Some, None}
+use Rattle.std.proofs.Common.{ℕ, ◌≡◌, List, length, take, ap, sym, ◌∙◌, arith}
+use Rattle.std.specs.Prelude.{Some, None}
 use Rattle.std.proofs.lemmas.List.{take-take}
 use Rattle.page_core.specs.declared.format.Format.{Format}
 use Rattle.page_core.specs.declared.format.Format.TheVariants.{Second}

@@ -1,7 +1,6 @@
 -- What holds of lives that follow one another.
-use Rattle.std.proofs.Common.{◌≡◌, ℕ, ◌<◌, ◌++◌, List, [], ◌∷◌, length, get_or, take, refl, sym, ap, subst, ◌∙◌, append_assoc, arith}
-use Rattle.std.specs.Prelude.{Result}
-use Rattle.std.specs.List.{All, flat_map}
+use Rattle.std.proofs.Common.{◌<◌, ◌++◌, List, [], ◌∷◌, length, get_or, refl, sym, subst, append_assoc, arith}
+use Rattle.std.specs.List.{All}
 use Rattle.std.proofs.lemmas.List.Elements.{All-append, All-nil}
 use Rattle.log_records.specs.declared.record.Record.{Record}
 use Rattle.log_records.specs.Image.{redo_all}
@@ -12,7 +11,6 @@ use Rattle.log_rules.proofs.Public.{linked-take}
 use Rattle.loser_undo.specs.Recovery.{HasCommitted, appended}
 use Rattle.loser_undo.specs.Undo.{after_undo}
 use Rattle.loser_undo.proofs.Public.{log_and_appended}
-use Rattle.copy_coverage.specs.Kept.{IsKeptOf}
 use Rattle.engine_rules.specs.AnsweredCommits.{AnsweredCommit, StandsIn, answered_commits}
 use Rattle.engine_rules.specs.EngineState.{EngineState, IsFit, log_of}
 use Rattle.engine_rules.proofs.Public.{IsForcedIn, forced_later, longer, stays_forced, stays_kept}

@@ -11,7 +11,6 @@ use Rattle.log_records.specs.Log.{IsLog, Log, lsn_of, page_count}
 use Rattle.log_records.proofs.Public.{resume_covering}
 use Rattle.log_records.proofs.Public.{length-redo_all}
 use Rattle.log_rules.specs.Linked.{IsLinked}
-use Rattle.log_rules.specs.Transactions.{open_in}
 use Rattle.log_rules.proofs.Public.{number_of_volume}
 use Rattle.loser_undo.specs.Recovery.{HasCommitted}
 use Rattle.loser_undo.specs.Undo.{after_undo}
@@ -19,7 +18,6 @@ use Rattle.loser_undo.proofs.Public.{undo_closes, undo_is_linked, undone_number}
 use Rattle.image_copies.specs.Copy.{CopyView}
 use Rattle.copy_vault.specs.Vault.{CopyState, complete, dropped, reading, state_of}
 use Rattle.copy_coverage.specs.Copied.{AreRestorable}
-use Rattle.engine_rules.specs.Resumed.{MayResume}
 use Rattle.engine_restart.specs.Restart.{IsRestarted, undone_log}
 
 -- ---- the pages of a log, from their formatting on

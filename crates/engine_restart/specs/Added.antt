@@ -1,6 +1,6 @@
 -- Copies of an older life, audited against the log before they are taken up.
 use Rattle.std.specs.Prelude.{ℕ, ◌≡◌, ◌<◌, ◌++◌, ◌⊎◌, List, [], ◌∷◌, length}
-use Rattle.std.specs.Prelude.{Option, Some, None, IsSome}
+use Rattle.std.specs.Prelude.{Some}
 use Rattle.log_records.specs.Coverage.{Covers}
 use Rattle.log_records.specs.Log.{Log, lsn_of, page_count, page_count_below}
 use Rattle.log_rules.specs.Checkpoint.{IsCompleteCheckpoint}

@@ -1,5 +1,5 @@
 -- A log that is taken up where an engine was lost, and what is there then.
-use Rattle.std.specs.Prelude.{ℕ, ◌≡◌, ◌<◌, ◌≤◌, List, [], length}
+use Rattle.std.specs.Prelude.{ℕ, ◌≡◌, ◌<◌, ◌≤◌, List, length}
 use Rattle.page_core.specs.FaultName.{fault_line}
 use Rattle.page_core.specs.declared.fault_name.FaultName.TheVariants as name
 use Rattle.page_core.specs.declared.page.Page.{Page}

@@ -11,16 +11,13 @@ use Rattle.engine_calls.specs.declared.refusal.Refusal.{Refusal}
 use Rattle.engine_calls.specs.declared.refusal.Refusal.TheVariants.{CommitUnsure, LogFault}
 use Rattle.engine_calls.specs.declared.refusal.Refusal.TheVariants.{StoreFault}
 use Rattle.log_records.specs.Log.{lsn_of}
-use Rattle.log_store.specs.Stores.{StoreCall, SyncCall, nothing}
-use Rattle.page_store.specs.Store.{GrowCall, ReadCall, WriteCall}
-use Rattle.engine_rules.specs.Asked.{Asks, FailsAsking, asked}
 use Rattle.engine_rules.specs.EngineState.{EngineState, end, new_state}
 use Rattle.engine_rules.specs.EngineView.{EngineView}
 use Rattle.engine_rules.specs.Run.{Run}
 use Rattle.engine_calls.specs.declared.event.Event.TheVariants as event
-use Rattle.engine_rules.specs.Step.{FailsForcing, Forces, IsAtRepair, IsByDevice, IsByStore}
+use Rattle.engine_rules.specs.Step.{IsAtRepair, IsByDevice, IsByStore}
 use Rattle.engine_rules.specs.Step.{IsFaultReply, Step, TellsOfFault}
-use Rattle.engine_rules.specs.Storage.{CallOn, CallsDevice, CallsStore, IsStoredOn, PlaysOn, RunOn}
+use Rattle.engine_rules.specs.Storage.{CallOn, PlaysOn, RunOn}
 use Rattle.engine_rules.specs.Storage.{Storage}
 use Rattle.engine_rules.proofs.Moves.{stored_or_not}
 use Rattle.engine_rules.proofs.Steps.{stays_or_grows}
@@ -138,63 +135,6 @@ same_end old event new other (inr both) = ap (λ (s : EngineState). s.forced_end
 at_repair : (event : Event) → IsAtRepair event StoreFault ⊎ (¬ IsAtRepair event StoreFault)
 at_repair (event.Repair copy page) = inl tt
 at_repair event = inr (λ h. h)
-
-calls_device : {S D : Type 0} (called : StoreCall D) (synced : SyncCall D) (call : Event) (old new : EngineView S D)
-    (reply : Result Answer Refusal) → Step old.state call reply new.state
-    → IfErr reply (λ why. ¬ IsByDevice why → ¬ IsAtRepair call why → new.device ≡ old.device)
-    → OnOk reply (Forces called synced old new)
-    → IfErr reply (λ why. IsAtRepair call why → Forces called synced old new)
-    → IfErr reply (λ why. IsByDevice why → FailsForcing called synced old new)
-    → CallsDevice called synced old reply new
-calls_device called synced call old new (Ok answer) step refused ok first failed = ok
-calls_device called synced call old new (Err LogFault) step refused ok first failed = failed tt
-calls_device called synced call old new (Err (CommitUnsure lsn)) step refused ok first failed = failed tt
-calls_device called synced call old new (Err StoreFault) step refused ok first failed = elim (at_repair call) [
-  | inl repair ↦ first repair
-  | inr other ↦
-      nothing (same_end old.state call new.state other step) (refused (λ h. h) other)
-]
-calls_device called synced call old new (Err other) step refused ok first failed = refused (λ h. h) (by_event call)
-  where
-    by_event : (event : Event) → ¬ IsAtRepair event other
-    by_event (event.Repair copy page) = λ h. h
-    by_event other_event = λ h. h
-
-calls_store : {S D : Type 0} (gave : ReadCall S) (wrote : WriteCall S) (grew : GrowCall S) (event : Event) (old new : EngineView S D)
-    (reply : Result Answer Refusal) → OnOk reply (Asks gave wrote grew (asked old.state event) old new)
-    → IfErr reply (λ why. ¬ IsByStore why → new.store ≡ old.store)
-    → IfErr reply (λ why. IsByStore why → FailsAsking gave wrote grew (asked old.state event) old new)
-    → CallsStore gave wrote grew event old reply new
-calls_store gave wrote grew event old new (Ok answer) ok refused failed = ok
-calls_store gave wrote grew event old new (Err StoreFault) ok refused failed = failed tt
-calls_store gave wrote grew event old new (Err other) ok refused failed = refused (λ h. h)
-
--- what the contract of a call says of it
-pub call_on : {S D : Type 0} (on : Storage S D) (old : EngineView S D) (event : Event)
-    (reply : Result Answer Refusal) (new : EngineView S D) → Step old.state event reply new.state
-    → IfErr reply (λ why. ¬ IsByDevice why → ¬ IsAtRepair event why → new.device ≡ old.device)
-    → OnOk reply (Forces on.called on.synced old new)
-    → IfErr reply (λ why. IsAtRepair event why → Forces on.called on.synced old new)
-    → IfErr reply (λ why. IsByDevice why → FailsForcing on.called on.synced old new)
-    → IfErr reply (λ why. ¬ IsByDevice why → on.device_failures new.device ≡ on.device_failures old.device)
-    → OnOk reply (on.device_failures new.device ≡ on.device_failures old.device)
-    → IfErr reply (λ why. IsByDevice why → on.device_failures old.device < on.device_failures new.device)
-    → OnOk reply (Asks on.gave on.wrote on.grew (asked old.state event) old new)
-    → IfErr reply (λ why. ¬ IsByStore why → new.store ≡ old.store)
-    → IfErr reply (λ why. IsByStore why → FailsAsking on.gave on.wrote on.grew (asked old.state event) old new)
-    → OnOk reply (on.store_failures new.store ≡ on.store_failures old.store)
-    → IfErr reply (λ why. IsByStore why → on.store_failures old.store < on.store_failures new.store)
-    → IsStoredOn on new → CallOn on old event reply new
-call_on on old event reply new step same called first last sound none cause ok store_same failed store_none store_cause
-    stored = record {
-      step = step;
-      stored = stored;
-      device = calls_device on.called on.synced event old new reply step same called first last;
-      store = calls_store on.gave on.wrote on.grew event old new reply ok store_same failed;
-      device_told = counts IsByDevice on.device_failures old.device new.device reply sound none cause;
-      store_told = counts IsByStore on.store_failures old.store new.store reply
-          (left_sound IsByStore on.store_failures old.store new.store reply store_same) store_none store_cause;
-    }
 
 run_on_push : {S D : Type 0} (on : Storage S D) (old : EngineView S D) (events : List Event)
     (replies : List (Result Answer Refusal)) (mid : EngineView S D) (event : Event) (reply : Result Answer Refusal)

@@ -187,10 +187,6 @@ pub commit_not_unsure : (s : EngineState) (txn lsn : ℕ) → active_refusal s t
 commit_not_unsure s txn lsn is =
     (of_active IsByDevice s txn (λ h. h) (λ h. h)).due _ is tt
 
-pub commit_not_by_device : (s : EngineState) (txn : ℕ) → active_refusal s txn ≡ Some LogFault → ⊥
-commit_not_by_device s txn is =
-    (of_active IsByDevice s txn (λ h. h) (λ h. h)).due _ is tt
-
 pub end_not_by_device : (s : EngineState) → refusal s event.CkptEnd ≡ Some LogFault → ⊥
 end_not_by_device s is =
     let never : Never IsByDevice (refusal s event.CkptEnd) =

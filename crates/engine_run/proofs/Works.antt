@@ -1,17 +1,16 @@
 -- What checkpoints and copies answered, one after another.
-use Rattle.std.proofs.Common.{ℕ, ◌≡◌, ◌≢◌, ◌+◌, ◌<◌, ◌≤◌, ◌++◌, ◌⊎◌, Bool, true, false, List, [], ◌∷◌}
-use Rattle.std.proofs.Common.{length, take, drop, replicate, slice_index_or, slice_set, arith, refl, sym}
-use Rattle.std.proofs.Common.{◌∙◌, ap, subst, if◌then◌else◌, eqb, inl, inr, Option, Some, None}
+use Rattle.std.proofs.Common.{ℕ, ◌≡◌, ◌+◌, ◌<◌, ◌≤◌, ◌++◌, Bool, false, List, [], ◌∷◌}
+use Rattle.std.proofs.Common.{length, take, drop, replicate, slice_index_or, arith, refl, sym}
+use Rattle.std.proofs.Common.{◌∙◌, ap, subst, if◌then◌else◌, inl, inr, Option, Some, None}
 use Rattle.std.specs.List.{All, filter_map}
-use Rattle.std.proofs.lemmas.Bool.Decides.{eqb_tells}
-use Rattle.std.proofs.lemmas.List.{get_or_default, get_or-set_other, get_or-set_same}
+use Rattle.std.proofs.lemmas.List.{get_or_default}
 use Rattle.std.proofs.lemmas.List.{take-append-drop, take_more}
 use Rattle.std.proofs.lemmas.List.Elements.{All-append, All-cons, All-nil, filter_map-append}
 use Rattle.fuzzy_ckpt.specs.declared.point.Point.{Point}
 use Rattle.settlement.specs.Marks.{AreMarked}
 use Rattle.settlement.specs.Receipt.{times}
 use Rattle.settlement.specs.Sessions.{AreApart}
-use Rattle.settlement.proofs.Public.{times-append, times_more}
+use Rattle.settlement.proofs.Public.{times-append}
 use Rattle.settlement.proofs.Public.{at_most_one, none_marked, times_one}
 use Rattle.engine_run.specs.Given.{AreGiven}
 use Rattle.engine_run.specs.Settled.{Evidence, HasBadWork, IsWorkBad, IsWorkWrongAt, WorkStands}
@@ -23,38 +22,6 @@ use Rattle.engine_run.specs.declared.work.Work.TheVariants.{Copied, Pointed}
 
 pub fresh_ids : (n : ℕ) → AreGiven (replicate n false) []
 fresh_ids n id = sym (ap (λ (b : Bool). if b then 1 else 0) (none_marked n id))
-
-given_more_at : (marks : List Bool) (ids : List ℕ) (id j : ℕ)
-    → times j ids ≡ (if slice_index_or marks j false then 1 else 0)
-    → id < length marks → slice_index_or marks id false ≡ false
-    → ((eqb id j ≡ true) × (id ≡ j)) ⊎ ((eqb id j ≡ false) × (id ≢ j))
-    → times j (ids ++ id ∷ []) ≡ (if slice_index_or (slice_set marks id true) j false then 1 else 0)
-given_more_at marks ids id j before inside free (inl (is, same)) =
-    let was : slice_index_or marks j false ≡ false =
-    subst (λ (n : ℕ). slice_index_or marks n false ≡ false) same free in
-    let now : slice_index_or (slice_set marks id true) j false ≡ true =
-    subst (λ (n : ℕ). slice_index_or (slice_set marks id true) n false ≡ true) same
-    (get_or-set_same marks id true false inside) in
-    times_more j id ids ∙ rw (before, was, is, now) refl
-given_more_at marks ids id j before inside free (inr (is, other)) =
-    let apart : j ≢ id = λ e. other (sym e) in
-    let same : times j ids + 0 ≡ times j ids = omega arith in
-    times_more j id ids
-    ∙ ap (λ (b : Bool). times j ids + (if b then 1 else 0)) is ∙ same ∙ before
-    ∙ ap (λ (b : Bool). if b then 1 else 0) (sym (get_or-set_other marks id j true false apart))
-
--- one id more is marked, which was not
-pub given_more : (marks : List Bool) (ids : List ℕ) (id : ℕ) → AreGiven marks ids
-    → id < length marks → slice_index_or marks id false ≡ false
-    → AreGiven (slice_set marks id true) (ids ++ id ∷ [])
-given_more marks ids id m inside free j =
-    given_more_at marks ids id j (m j) inside free (eqb_tells id j)
-
-pub given_times : (marks : List Bool) (ids : List ℕ) (id : ℕ) → AreGiven marks ids
-    → slice_index_or marks id false ≡ true → 0 < times id ids
-given_times marks ids id m is =
-    let one : times id ids ≡ 1 = m id ∙ ap (λ (b : Bool). if b then 1 else 0) is in
-    omega arith
 
 pub given_apart : (marks : List Bool) (ids : List ℕ) → AreGiven marks ids → AreApart ids
 given_apart marks ids m id =

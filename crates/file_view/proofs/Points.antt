@@ -1,5 +1,5 @@
 -- Checkpoints that are noted record by record.
-use Rattle.std.proofs.Common.{◌≡◌, ◌++◌, ◌+◌, ◌<◌, ◌≤◌, ◌∷◌, ℕ, List, Option, [], refl, ap, ◌∙◌, sym, arith, get_or, length, take}
+use Rattle.std.proofs.Common.{◌≡◌, ◌++◌, ◌+◌, ◌<◌, ◌∷◌, ℕ, List, Option, [], refl, ap, ◌∙◌, arith, get_or, length, take}
 use Rattle.std.proofs.lemmas.List.{length-append, take_more}
 use Rattle.log_records.specs.declared.record.Record.{Record}
 use Rattle.file_view.specs.declared.log_summary.CkptPoint.{CkptPoint}

@@ -1,5 +1,5 @@
 -- What is noted of a log.
-use Rattle.std.specs.Prelude.{ℕ, ◌≡◌, ◌∷◌, List, None, Option, Some, [], length}
+use Rattle.std.specs.Prelude.{◌≡◌, ◌∷◌, List, None, Option, Some, [], length}
 use Rattle.log_records.specs.declared.record.Record.{Record}
 use Rattle.log_records.specs.declared.record.Record.TheVariants.{Abort, Begin, BeginChkpt}
 use Rattle.log_records.specs.declared.record.Record.TheVariants.{ChkptPages, ChkptTxns, Commit}

@@ -2,7 +2,7 @@
 use Rattle.std.proofs.Common.{◌≡◌, ℕ, suc, ◌+◌, ◌-◌, ◌<◌, ◌≤◌, List, ◌∷◌, ◌++◌, length, get_or, map, take, refl, sym}
 use Rattle.std.proofs.Common.{ap, subst}
 use Rattle.std.proofs.Common.{◌∙◌, arith, min}
-use Rattle.std.specs.Prelude.{Option, Some, None, IfSome, IsSome, nat_lt, true, false, Bool, if◌then◌else◌}
+use Rattle.std.specs.Prelude.{Option, Some, None, IfSome, nat_lt, true, false, Bool, if◌then◌else◌}
 use Rattle.std.proofs.Math.Seq.{get_or-append_right, take-append-add}
 use Rattle.std.proofs.lemmas.Bool.{ltb-false}
 use Rattle.std.proofs.lemmas.List.{get_or-map, length-append, length-map, length-take, same_lists, take-take, take_min}
@@ -24,7 +24,7 @@ use Rattle.log_store.specs.declared.master.Master.{Master}
 use Rattle.image_copies.specs.Chain.{IsChain, content, contents, last_redo}
 use Rattle.copy_vault.specs.ChainOf.{IsChainOf}
 use Rattle.image_copies.specs.Copy.{CopyView}
-use Rattle.copy_vault.specs.Vault.{CopyState, complete, dropped, reading, state_of}
+use Rattle.copy_vault.specs.Vault.{complete, state_of}
 use Rattle.copy_coverage.specs.Kept.{IsKeptOf}
 use Rattle.copy_coverage.specs.Retired.{HasRoomForUndo, NamesCheckpoint, IsRetired, RetiredView}
 use Rattle.copy_coverage.proofs.Public.{restored_of_members}
@@ -105,16 +105,6 @@ pub checkpoint_of : (it : RetiredView) (cut : ℕ) (master : Master) → IsRetir
     → IsCompleteCheckpoint (kept_log it.log cut).records master.begin master.end
 checkpoint_of it cut master retired is kept = checkpoint_in it (kept_log it.log cut) master retired is kept
 
--- what is not refused is complete, and so has a master record
-pub noted_in : (it : RetiredView) (id : ℕ) → IsRetired it → copy_refusal (state_of it.copies id) ≡ None
-    → IsSome it.master
-noted_in it id retired fine = by_state (state_of it.copies id) refl fine
-  where
-    by_state : (state : CopyState) → state_of it.copies id ≡ state → copy_refusal state ≡ None → IsSome it.master
-    by_state (reading copy) is e = cc
-    by_state (complete copy) is e = retired.noted id copy is
-    by_state dropped is e = cc
-
 -- ---- the pages
 
 -- of the pages that were loaded, those that the volume had where the log is cut
@@ -182,8 +172,3 @@ first_none (Some fault) b e = cc
 pub cut_is_fine : (it : RetiredView) (id cut : ℕ) → load_refusal it id cut ≡ None → MayCut it cut
 cut_is_fine it id cut e =
     (first_none (copy_refusal (state_of it.copies id)) (cut_refusal it.forced_end (length it.log.records) cut) e).1
-
-pub copy_is_fine : (it : RetiredView) (id cut : ℕ) → load_refusal it id cut ≡ None
-    → copy_refusal (state_of it.copies id) ≡ None
-copy_is_fine it id cut e =
-    (first_none (copy_refusal (state_of it.copies id)) (cut_refusal it.forced_end (length it.log.records) cut) e).0

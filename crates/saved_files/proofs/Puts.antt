@@ -7,7 +7,7 @@ use Rattle.std.proofs.lemmas.Slice.Eq.{bytes_eq-Decides}
 use Rattle.saved_files.specs.declared.put_fault.PutFault.{PutFault}
 use Rattle.saved_files.specs.declared.put_fault.PutFault.TheVariants.{Unmade, Unwritten, Unplaced}
 use Rattle.saved_files.specs.Filled.{IsFilled, IsHow, IsUnplaced, LeavesFill}
-use Rattle.saved_files.specs.Folder.{Changes, Entries, IsBeside, IsMade, IsRemoved, IsRenamed, IsSame, IsSynced}
+use Rattle.saved_files.specs.Folder.{Changes, Entries, IsBeside, IsMade, IsRemoved, IsSame, IsSynced}
 use Rattle.saved_files.specs.Folder.{KeepsBeside, KeepsOthers, Puts, RenamesOrKeeps, absent}
 use Rattle.saved_files.specs.PutFault.{IsOfSource, LeavesPut, Writing, bytes_by}
 
@@ -32,9 +32,6 @@ so (Some old) (Some new) imply p = imply old new p
 pub same_here : (a : Option Entries) → Changes IsSame a a
 same_here None = tt
 same_here (Some old) = λ n. refl
-
-pub same_twice : (a b c : Option Entries) → Changes IsSame a b → Changes IsSame b c → Changes IsSame a c
-same_twice a b c = then a b c (λ old mid new first second n. second n ∙ first n)
 
 -- ---- the name beside a name
 
@@ -166,18 +163,6 @@ of_source gives leaves old new (Unwritten why) how = (old, (new, how))
 of_source gives leaves old new (Unplaced why) how = how.1
 
 -- ---- a file that comes to its name
-
--- synced and renamed
-pub came : (beside name : List ℕ) (fits : Option (List ℕ) → Type 0) (contents : Option (List ℕ)) (a b c : Option Entries)
-    → fits contents → Changes (IsSynced beside contents) a b → Changes (IsRenamed beside name) b c
-    → Changes (IsFilled beside name fits) a c
-came beside name fits contents a b c right = then a b c (λ old mid new synced renamed. record {
-  bytes = synced.bytes;
-  right = subst fits synced.whole right;
-  put = renamed.moved ∙ synced.synced;
-  left = renamed.left;
-  others = λ n other apart. renamed.others n other apart ∙ synced.others n other;
-})
 
 -- synced, and not known to be renamed
 pub stayed : (beside name : List ℕ) (fits : Option (List ℕ) → Type 0) (contents : Option (List ℕ)) (a b c : Option Entries)

@@ -1,5 +1,5 @@
 -- A log that was found in the bytes that a device is known to have.
-use Rattle.std.proofs.Common.{◌≡◌, ◌*◌, ◌+◌, ◌≤◌, ℕ, List, ap, arith, length, sym, take, ◌∙◌}
+use Rattle.std.proofs.Common.{◌≡◌, ◌*◌, ◌+◌, ℕ, List, ap, arith, length, take, ◌∙◌}
 use Rattle.std.proofs.lemmas.List.{length-take}
 use Rattle.log_records.specs.Log.{Log, SpellsLog, log_bytes, lsn_of}
 use Rattle.log_records.proofs.Public.{length-log}

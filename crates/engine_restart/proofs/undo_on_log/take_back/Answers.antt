@@ -1,4 +1,4 @@
-use Rattle.std.proofs.Common.{◌≡◌, ◌+◌, ◌≤◌, ◌<◌, ℕ, length, refl, ap, sym, subst, arith, ◌∙◌}
+use Rattle.std.proofs.Common.{◌≡◌, length, refl, ap, arith, ◌∙◌}
 use Rattle.log_records.specs.declared.record.Record.{Record}
 use Rattle.log_rules.specs.Transactions.{owed}
 use Rattle.loser_undo.specs.Losers.{AreLosersOf, losers_of}

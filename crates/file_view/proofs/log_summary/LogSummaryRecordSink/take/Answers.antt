@@ -1,6 +1,5 @@
-use Rattle.std.proofs.Common.{ap, arith, length, sym, ◌∙◌}
+use Rattle.std.proofs.Common.{ap, arith, sym, ◌∙◌}
 use Rattle.std.proofs.lemmas.List.{length-append}
-use Rattle.log_records.specs.Log.{IsLog}
 use Rattle.file_view.specs.Summary.{points_after}
 use Rattle.file_view.proofs.Points.{points_of_both}
 use Rattle.file_view.proofs.log_summary.LogSummaryRecordSink.take.Goals as goal
