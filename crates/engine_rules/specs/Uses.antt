@@ -8,9 +8,8 @@ use Rattle.engine_rules.specs.EngineState.{end}
 use Rattle.engine_rules.specs.EngineView.{EngineView}
 use Rattle.engine_rules.specs.Step.{FailsForcing, Forces, IsByDevice, IsByStore}
 
--- the store is called at most once, for what is asked of it: it does this where the call of the engine
--- is answered, it fails where that is refused by the store, and else it is not called; and it has failed
--- more often just where the call is refused by it
+-- the store is called at most once, for what is asked of it: it did this where the engine's call is
+-- answered, and failed at it where that is refused by the store; else it was not called
 pub record AsksStore {S D T : Type 0} (gave : ReadCall S) (wrote : WriteCall S) (grew : GrowCall S)
     (failures : S → ℕ) (ask : Asked) (old : EngineView S D) (result : Result T Refusal)
     (new : EngineView S D) : Type 0 where
@@ -20,10 +19,9 @@ pub record AsksStore {S D T : Type 0} (gave : ReadCall S) (wrote : WriteCall S) 
   pub no_failure : OnOk result (failures new.store ≡ failures old.store)
   pub cause : IfErr result (λ why. IsByStore why → failures old.store < failures new.store)
 
--- the device is called for the records that the call forces, one by one, and to sync them: these calls
--- are all made where the call of the engine is answered or refused by the store, they end at the one
--- that fails where that is refused by the device, and else none is made; and the device has failed more
--- often just where the call is refused by it, at an offset that the log has reached
+-- the device is called for each record that is forced, and then to sync them: all these calls were
+-- made where the engine's call is answered, or is refused by the store; they end at one that failed
+-- where it is refused by the device, at an offset that the log has reached; else none was made
 pub record ForcesDevice {S D T : Type 0} (call : StoreCall D) (sync : SyncCall D)
     (failures fails_from : D → ℕ) (old : EngineView S D) (result : Result T Refusal)
     (new : EngineView S D) : Type 0 where
