@@ -10,7 +10,6 @@ use Rattle.log_records.specs.declared.dirty_page.DirtyPages.{DirtyPages}
 use Rattle.log_records.specs.declared.record.Record.{Record}
 use Rattle.log_records.specs.declared.record.Record.TheVariants as log
 use Rattle.log_records.specs.PageCount.{given_count}
-use Rattle.log_records.specs.Record.{IsOfTransaction}
 use Rattle.log_rules.specs.declared.pending_change.PendingChange.{PendingChange}
 use Rattle.log_rules.specs.Checkpoint.{Checkpoint, open_checkpoint}
 use Rattle.log_rules.specs.Linked.{number_in}
@@ -168,16 +167,6 @@ makes s (event.Extend count) r none made =
 makes s other r none made = absurd (none_is_not_some made)
 
 -- ---- what they are
-
--- one of a transaction, where the event is beside checkpoints and the volume does not grow
-pub of_transaction : (s : EngineState) (event : Event) (r : Record) → IsBeside event → IsNoGrowth event
-    → Makes s event r → IsOfTransaction r
-of_transaction s event r beside stays (MakesExtend count grows begins passes) = absurd (grows stays)
-of_transaction s event r beside stays (MakesBeginChkpt ckpt begins passes) = absurd (ckpt beside)
-of_transaction s event r beside stays (MakesPages c pages ckpt is finds room) = absurd (ckpt beside)
-of_transaction s event r beside stays (MakesTxn c t ckpt is finds room) = absurd (ckpt beside)
-of_transaction s event r beside stays (MakesEndChkpt c ckpt is done room) = absurd (ckpt beside)
-of_transaction s event r beside stays other = tt
 
 -- no such record gives the volume a page count
 pub gives_none : (s : EngineState) (event : Event) (r : Record) → IsNoGrowth event → Makes s event r

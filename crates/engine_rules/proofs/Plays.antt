@@ -19,7 +19,6 @@ use Rattle.engine_rules.specs.Step.{IsAtRepair, IsByDevice, IsByStore}
 use Rattle.engine_rules.specs.Step.{IsFaultReply, Step, TellsOfFault}
 use Rattle.engine_rules.specs.Storage.{CallOn, PlaysOn, RunOn}
 use Rattle.engine_rules.specs.Storage.{Storage}
-use Rattle.engine_rules.proofs.Moves.{stored_or_not}
 use Rattle.engine_rules.proofs.Steps.{stays_or_grows}
 
 -- ---- one step more
@@ -118,19 +117,6 @@ tells_push Of decides failures start old new replies reply tells sound no_failur
     (counts Of failures old new reply sound no_failure cause)
 
 -- ---- each call for itself
-
--- at a fault of the store the forced end stays, but for a repair
-same_end : (old : EngineState) (event : Event) (new : EngineState) → ¬ IsAtRepair event StoreFault
-    → Step old event (Err StoreFault) new → new.forced_end ≡ old.forced_end
-same_end old event new other (inl both) = ap (λ (s : EngineState). s.forced_end) both.1
-same_end old (event.Repair copy page) new other (inr both) = absurd (other tt)
-same_end old (event.WriteEnd page) new other (inr both) = elim (stored_or_not old page new both.1) [
-  | inl same ↦ ap (λ (s : EngineState). s.forced_end) same
-  | inr stored ↦ ap (λ (s : EngineState). s.forced_end) stored.2
-]
-same_end old (event.Take copy page) new other (inr both) = ap (λ (s : EngineState). s.forced_end) both.1
-same_end old (event.Extend count) new other (inr both) = ap (λ (s : EngineState). s.forced_end) both.1
-same_end old event new other (inr both) = ap (λ (s : EngineState). s.forced_end) both.1.1
 
 at_repair : (event : Event) → IsAtRepair event StoreFault ⊎ (¬ IsAtRepair event StoreFault)
 at_repair (event.Repair copy page) = inl tt

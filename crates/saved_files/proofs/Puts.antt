@@ -9,7 +9,7 @@ use Rattle.saved_files.specs.declared.put_fault.PutFault.TheVariants.{Unmade, Un
 use Rattle.saved_files.specs.Filled.{IsFilled, IsHow, IsUnplaced, LeavesFill}
 use Rattle.saved_files.specs.Folder.{Changes, Entries, IsBeside, IsMade, IsRemoved, IsSame, IsSynced}
 use Rattle.saved_files.specs.Folder.{KeepsBeside, KeepsOthers, Puts, RenamesOrKeeps, absent}
-use Rattle.saved_files.specs.PutFault.{IsOfSource, LeavesPut, Writing, bytes_by}
+use Rattle.saved_files.specs.PutFault.{LeavesPut, Writing, bytes_by}
 
 -- ---- what is known of a folder
 
@@ -154,13 +154,6 @@ left_by name text one two gives leaves empty before given_up contents fault a b 
     left name text gives leaves empty before given_up contents fault a b c d is how same made
     (subst (λ n. Changes (LeavesFill n name (gives empty) fault) b c) first filled)
     (subst (λ n. Changes (KeepsOthers n) c d) second (given two c d r gone kept))
-
--- the fault that is told is of the source
-pub of_source : {E : Type 0} (gives : Writing) (leaves : E → Writing) (old new : Option (List ℕ)) (fault : PutFault E)
-    → IsHow gives leaves old new fault → IsOfSource leaves fault
-of_source gives leaves old new (Unmade why) how = absurd how
-of_source gives leaves old new (Unwritten why) how = (old, (new, how))
-of_source gives leaves old new (Unplaced why) how = how.1
 
 -- ---- a file that comes to its name
 

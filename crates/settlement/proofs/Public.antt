@@ -1,7 +1,7 @@
 -- The laws of this crate that proofs of the crates above it cite. Its other lemmas are its own.
 
 -- Marks, one record after another.
-pub use Rattle.settlement.proofs.Marking.{times-append, times_more}
+pub use Rattle.settlement.proofs.Marking.{times-append}
 -- The sessions of a run, one after another.
 pub use Rattle.settlement.proofs.Sessions.{all_more, at_most_one, marked_apart, none_marked}
 pub use Rattle.settlement.proofs.Sessions.{times_all, times_one, times_sessions, wrong_in}
