@@ -14,8 +14,7 @@ use Rattle.log_records.specs.Log.{lsn_of}
 use Rattle.engine_rules.specs.EngineState.{EngineState, end, new_state}
 use Rattle.engine_rules.specs.EngineView.{EngineView}
 use Rattle.engine_rules.specs.Run.{Run}
-use Rattle.engine_calls.specs.declared.event.Event.TheVariants as event
-use Rattle.engine_rules.specs.Step.{IsAtRepair, IsByDevice, IsByStore}
+use Rattle.engine_rules.specs.Step.{IsByDevice, IsByStore}
 use Rattle.engine_rules.specs.Step.{IsFaultReply, Step, TellsOfFault}
 use Rattle.engine_rules.specs.Storage.{CallOn, PlaysOn, RunOn}
 use Rattle.engine_rules.specs.Storage.{Storage}
@@ -117,10 +116,6 @@ tells_push Of decides failures start old new replies reply tells sound no_failur
     (counts Of failures old new reply sound no_failure cause)
 
 -- ---- each call for itself
-
-at_repair : (event : Event) → IsAtRepair event StoreFault ⊎ (¬ IsAtRepair event StoreFault)
-at_repair (event.Repair copy page) = inl tt
-at_repair event = inr (λ h. h)
 
 run_on_push : {S D : Type 0} (on : Storage S D) (old : EngineView S D) (events : List Event)
     (replies : List (Result Answer Refusal)) (mid : EngineView S D) (event : Event) (reply : Result Answer Refusal)

@@ -136,11 +136,6 @@ abbrev pub took_answer : Took → Answer
 took_answer (took.Taken lsn) = answer.Taken lsn
 took_answer took.Kept = answer.Kept
 
--- a Commit that is not known to be forced
-abbrev pub IsUnsure : Refusal → Type 0
-IsUnsure (CommitUnsure lsn) = Unit {0}
-IsUnsure other = ⊥
-
 -- a fault of the log's device
 abbrev pub IsByDevice : Refusal → Type 0
 IsByDevice LogFault = Unit {0}
@@ -151,11 +146,6 @@ IsByDevice other = ⊥
 abbrev pub IsByStore : Refusal → Type 0
 IsByStore StoreFault = Unit {0}
 IsByStore other = ⊥
-
--- the store failed at a repair: the log was forced before that
-abbrev pub IsAtRepair : Event → Refusal → Type 0
-IsAtRepair (event.Repair copy page) why = IsByStore why
-IsAtRepair event why = ⊥
 
 -- the event forces nothing, so no call of the log's device is made
 abbrev pub LeavesDevice : Event → Type 0

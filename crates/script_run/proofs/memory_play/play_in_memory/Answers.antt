@@ -40,11 +40,11 @@ loop-event-preserved c =
         device = within_push c.args.setup.pages c.args.setup.frames (length events)
             (c.loop-event.engine.device.room + 1) (c.loop-event.engine.device.room + 1) (take i events) replies
             c.loop-event.engine.state event reply c.apply.new.self.state so_far.run c.apply.ensures.step
-            (omega (arith, length-take i events)) refl c.apply.ensures.past_bound (λ h. so_far.device)
+            (omega (arith, length-take i events)) refl c.apply.ensures.device.past_bound (λ h. so_far.device)
             (omega (arith, so_far.room));
         store = All-push (λ reply. ¬ IsFaultReply IsByStore reply) replies reply so_far.store
-            (sound_store 0 0 reply refl c.apply.ensures.store_cause);
-        room = omega (arith, c.apply.ensures.same_bound, so_far.room);
+            (sound_store 0 0 reply refl c.apply.ensures.store.cause);
+        room = omega (arith, c.apply.ensures.device.same_bound, so_far.room);
       },
     )
 
