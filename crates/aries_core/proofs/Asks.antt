@@ -1,25 +1,23 @@
 -- What is asked of the page store where a page is needed in memory.
-use Rattle.std.proofs.Common.{◌≡◌, ℕ, ◌<◌, Bool, true, false, cond, List, length, get_or, ap, arith, subst, sym, ◌∙◌}
-use Rattle.std.specs.Prelude.{Option, Some, None, IfSome, Result, Ok, Err, OnErr, OnOk, IfErr, is_err}
+use Rattle.std.proofs.Common.{◌≡◌, ℕ, ◌<◌, true, false, cond, List, length, ap, refl, subst, sym, ◌∙◌}
+use Rattle.std.specs.Prelude.{Option, Some, None, IfSome, Result, Ok, Err, OnErr, OnOk, is_err}
 use Rattle.std.specs.Option.{option_map_or}
 use Rattle.page_core.specs.declared.page.Page.{Page}
-use Rattle.page_core.specs.Page.{formatted}
 use Rattle.page_store.specs.declared.store.StoreFault.{StoreFault}
 use Rattle.page_store.specs.Store.{GrowCall, ReadCall, WriteCall}
-use Rattle.buffer_pool.specs.Frames.{is_resident}
-use Rattle.buffer_pool.specs.Pool.{PoolView, state_at}
+use Rattle.buffer_pool.specs.Frames.{fetched, is_resident}
+use Rattle.buffer_pool.specs.Pool.{PoolView, is_clean, state_at, written_of}
 use Rattle.log_store.specs.WrittenLog.{WrittenLog}
 use Rattle.engine_calls.specs.declared.event.Event.TheVariants as event
-use Rattle.engine_rules.specs.Asked.{Asks, FailsAsking, a_page, asked, nothing, page_asked, to_store}
+use Rattle.engine_rules.specs.Asked.{Asks, FailsAsking, asked, nothing, to_store}
 use Rattle.engine_rules.specs.EngineView.{EngineView, MediaView, engine_view}
-use Rattle.engine_calls.specs.declared.refusal.Refusal.TheVariants as by
+use Rattle.engine_rules.specs.EngineState.{with_page}
+use Rattle.aries_core.specs.Fetching.{StaysBeside, resident_with}
 use Rattle.engine_rules.specs.Refusal.{refusal}
-use Rattle.engine_rules.specs.Uses.{AsksStore}
 use Rattle.aries_core.proofs.PoolStates.{image_at, page_at}
-use Rattle.aries_core.proofs.Uses.{asked_in_vain, was_asked}
 use Rattle.engine_rules.proofs.Public.{write_end_passes}
 
--- what an answer that is no `Err` says, and why one failed
+-- what an answer that is no `Err` says, and what one that is
 pub said : {T E : Type 0} (r : Result T E) (P : Type 0) → is_err r ≡ false → OnOk r P → P
 said (Ok x) P ok h = h
 said (Err e) P ok h = cc
@@ -28,37 +26,18 @@ pub failing : {T E : Type 0} (r : Result T E) (P : Type 0) → is_err r ≡ true
 failing (Ok x) P err h = cc
 failing (Err e) P err h = h
 
-pub why_failed : {T E : Type 0} (r : Result T E) (P : E → Type 0) → is_err r ≡ true → IfErr r P → (e : E) × P e
-why_failed (Ok x) P err h = cc
-why_failed (Err e) P err h = (e, h)
+-- ---- a page that was brought into a pool
 
--- one that is not there was read from the store, of a pool that had made room for it, or that call failed
-module _ {S D T : Type 0} (stored : S → List Page) {gave : ReadCall S} {wrote : WriteCall S} {grew : GrowCall S}
-    {failures : S → ℕ} (it : WrittenLog D) (pool roomy : PoolView S) (media : MediaView) (new : EngineView S D) (page : ℕ)
-    (left : S) (within : page < length pool.states) (absent : is_resident pool.resident page ≡ false)
-    (same : roomy ≡ record pool { room = roomy.room }) (store : new.store ≡ left) where
-  pub page_came : (value : T) → gave roomy.store page (Ok (get_or (stored roomy.store) page (formatted page))) left
-      → failures left ≡ failures roomy.store
-      → AsksStore gave wrote grew failures (page_asked (engine_view stored it pool media).state page)
-      (engine_view stored it pool media) (Ok value) new
-  page_came value given quiet =
-      was_asked value
-      (subst (λ (b : Bool). Asks gave wrote grew (cond b nothing (a_page page)) (engine_view stored it pool media) new)
-      (sym absent)
-      (subst (λ (q : Page). gave pool.store page (Ok q) new.store) (sym (page_at stored it pool media page within))
-      (subst (λ (v : PoolView S). gave v.store page (Ok (get_or (stored v.store) page (formatted page))) new.store) same
-      (rw store given))))
-      (ap failures store ∙ quiet ∙ ap (λ (v : PoolView S). failures v.store) same)
-
-  pub page_failed : (why : StoreFault) × gave roomy.store page (Err why) left → failures roomy.store < failures left
-      → AsksStore {T = T} gave wrote grew failures (page_asked (engine_view stored it pool media).state page)
-      (engine_view stored it pool media) (Err by.StoreFault) new
-  page_failed failed more =
-      asked_in_vain
-      (subst (λ (b : Bool). FailsAsking gave wrote grew (cond b nothing (a_page page)) (engine_view stored it pool media) new)
-      (sym absent)
-      (subst (λ (v : PoolView S). (why : StoreFault) × gave v.store page (Err why) new.store) same (rw store failed)))
-      (omega (arith, more, ap failures store, ap (λ (v : PoolView S). failures v.store) same))
+module _ {S D : Type 0} (stored : S → List Page) (it : WrittenLog D) (pool after : PoolView S) (media : MediaView)
+    (page : ℕ) (within : page < length pool.states) (rest : StaysBeside stored pool after) where
+  pub brought_is : after.resident ≡ resident_with stored it.log page pool
+      → (engine_view stored it after media).state ≡ with_page (engine_view stored it pool media).state page
+  brought_is came =
+      let clean = is_clean it.log.records (written_of pool.states) in
+      let now = came
+      ∙ ap (λ q. cond (is_resident pool.resident page) pool.resident (fetched pool.frames clean pool.resident q))
+      (sym (page_at stored it pool media page within)) in
+      rw (rest.pages, rest.frames, rest.states, now) refl
 
 -- the image of a page whose write ends is stored
 module _ {S D : Type 0} (stored : S → List Page) (gave : ReadCall S) (wrote : WriteCall S) (grew : GrowCall S) (it : WrittenLog D)

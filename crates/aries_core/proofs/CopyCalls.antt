@@ -104,14 +104,6 @@ take_step s copies copy p page decision given none same answer_is made given_is 
 
 -- ---- the pages of a copy that is being read
 
-some_reading : (state : CopyState) (copy : CopyView) → reading_of state ≡ Some copy → state ≡ reading copy
-some_reading (reading other) copy is = ap reading (same_view other copy is)
-  where
-    same_view : (a b : CopyView) → Some a ≡ Some b → a ≡ b
-    same_view a b e = cc
-some_reading (complete other) copy is = cc
-some_reading dropped copy is = cc
-
 -- a page that is to be taken is one of the copy's
 pub take_room : (s : EngineState) (copies : List CopyState) (copy p : ℕ)
     → refusal s (event.Take copy p) ≡ None → copies ≡ s.copies → p < length (pages_read (state_of copies copy))

@@ -8,5 +8,6 @@ pub mod PoolStates
 pub mod Repairs
 pub mod Retires
 pub mod Returned
+pub mod Updates
 pub mod Uses
 pub mod WriteCalls

@@ -16,7 +16,7 @@ use Rattle.page_store.specs.Store.{IsGrown}
 use Rattle.std.proofs.Math.Seq.{take-set-lt}
 use Rattle.page_core.specs.declared.page.Page.{Page}
 use Rattle.page_core.specs.Page.{formatted}
-use Rattle.buffer_pool.specs.Pool.{IsPoolOf, PoolView, is_clean, state_at, unwritten, new_pool, with_state, write_begun}
+use Rattle.buffer_pool.specs.Pool.{IsPoolOf, PoolView, state_at, unwritten, new_pool, with_state, write_begun}
 use Rattle.buffer_pool.specs.Pool.{write_ended}
 use Rattle.buffer_pool.specs.Pool.{writing_of, written_of}
 use Rattle.log_store.specs.WrittenLog.{WrittenLog, end_up_to}
@@ -26,19 +26,13 @@ use Rattle.engine_calls.specs.declared.refusal.Refusal.TheVariants.{WriteBegun}
 use Rattle.engine_rules.specs.EngineState.{EngineState, begun_write, ended_write, forced_through}
 use Rattle.engine_rules.specs.EngineView.{MediaView, engine_view}
 use Rattle.engine_rules.specs.EngineState.{image_of}
-use Rattle.engine_rules.specs.EngineState.{new_state, stored_page, with_page, with_stored}
+use Rattle.engine_rules.specs.EngineState.{new_state, stored_page, with_stored}
 use Rattle.engine_rules.specs.EngineState.{volume_pages}
-use Rattle.buffer_pool.specs.Frames.{fetched, is_resident}
 use Rattle.page_core.specs.Volume.{formatted_pages}
 use Rattle.engine_rules.specs.Refusal.{refusal}
 use Rattle.txn_table.specs.declared.returns.Return.{Return}
 
 -- ---- refusals
-
-none_by_some : {X : Type 0} (o : Option X) (b : Bool) → is_some o ≡ b
-    → is_none o ≡ (elim b as (λ (b : Bool). Bool) [ true ↦ false | false ↦ true ])
-none_by_some None b e = ap (λ (b : Bool). elim b as (λ (b : Bool). Bool) [ true ↦ false | false ↦ true ]) e
-none_by_some (Some x) b e = ap (λ (b : Bool). elim b as (λ (b : Bool). Bool) [ true ↦ false | false ↦ true ]) e
 
 pub repair_begun : (s : EngineState) (copy p : ℕ) → complete_refusal (state_of s.copies copy) ≡ None
     → p < volume_pages s → is_some (image_of s p) ≡ true → refusal s (event.Repair copy p) ≡ Some WriteBegun
@@ -141,28 +135,6 @@ new_is {S = S} stored it pool store n frames copies returns none log forced is h
     ap (λ (k : ℕ). take k (stored pool.store)) count ∙ ap (take n) pages
     ∙ take_all n (formatted_pages n) (omega (arith, length-map-range_with_len formatted 0 n)) in
     rw (log, forced, written, writing, resident, limit, whole, none) refl
-
--- ---- a page comes in
-
-pub fetched_is : {S D : Type 0} (stored : S → List Page) (it : WrittenLog D) (pool after : PoolView S)
-    (ckpts : MediaView) (p : ℕ) → p < length pool.states → is_resident pool.resident p ≡ false
-    → stored after.store ≡ stored pool.store → after.frames ≡ pool.frames → after.states ≡ pool.states
-    → after.resident ≡ fetched pool.frames (is_clean it.log.records (written_of pool.states)) pool.resident
-    (get_or (stored pool.store) p (formatted p))
-    → (engine_view stored it after ckpts).state ≡ with_page (engine_view stored it pool ckpts).state p
-fetched_is stored it pool after ckpts p within absent store frames states resident =
-    let clean = is_clean it.log.records (written_of pool.states) in
-    let now = resident ∙ ap (fetched pool.frames clean pool.resident) (sym (page_at stored it pool ckpts p within)) in
-    rw (store, frames, states, now, absent) refl
-
--- a page did not come in, where the store failed
-pub stayed_is : {S D : Type 0} (stored : S → List Page) (it mid : WrittenLog D) (pool after : PoolView S)
-    (ckpts : MediaView) → mid.log ≡ it.log → mid.forced_end ≡ it.forced_end
-    → stored after.store ≡ stored pool.store → after.frames ≡ pool.frames → after.resident ≡ pool.resident
-    → after.states ≡ pool.states
-    → (engine_view stored mid after ckpts).state ≡ (engine_view stored it pool ckpts).state
-stayed_is stored it mid pool after ckpts same end store frames resident states =
-    rw (same, end, store, frames, resident, states) refl
 
 -- ---- pages behind the volume
 

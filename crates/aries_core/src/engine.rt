@@ -68,7 +68,7 @@ impl<S: PageStore, D: LogDevice> Model for Engine<S, D> {
         IsConsistent S.stored
         (engine_view S.stored it.log it.pool
         (media_view it.master it.session it.vault.copies it.returns.made)).state
-        it.txns it.pool (media_view it.master it.session it.vault.copies it.returns.made) };
+        it.txns.table it.pool (media_view it.master it.session it.vault.copies it.returns.made) };
 }
 
 impl<S: PageStore + Drop, D: LogDevice + Drop> Engine<S, D> {
@@ -225,11 +225,11 @@ impl<S: PageStore, D: LogDevice> Engine<S, D> {
     {
         let prev = self.find_changeable(txn, page, slot, ChangeKind::Set)?;
         // The number before is read where the page is in memory.
-        let ahead = Change::Set {
+        let change = Change::Set {
             before: 0,
             after: number,
         };
-        self.update(txn, prev, page, slot, ahead)
+        self.update(txn, prev, page, slot, change)
     }
 
     /// Adds to the number in a slot, modulo 2^64, and answers the LSN of its Update. Refusals are

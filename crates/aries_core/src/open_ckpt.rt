@@ -28,7 +28,7 @@ impl OpenCkpt {
     /// Whether the next step of the gather appends a record.
     pub(crate) fn would_append<S: PageStore>(&self, pool: &Pool<S>, txns: &TxnTable) -> bool
         ensures { (log : LogValue) → IsPoolOf S.stored log pool.now
-            → IsTableOf log.records txns.now
+            → IsTableOf log.records txns.now.table
             → IsTrue result ↔ IsSome (gather_step log.records (written_of pool.now.states)
             (view_of self.now)).next }
     {
@@ -67,7 +67,7 @@ impl OpenCkpt {
     ) -> Result<OpenCkpt, OpenCkpt>
         requires ckpt { IsCkptOf log.old.log (view_of self) }
         requires pool { IsPoolOf S.stored log.old.log pool.now }
-        requires table { IsTableOf log.old.log.records txns.now }
+        requires table { IsTableOf log.old.log.records txns.now.table }
         requires covered { AreCovered log.old.log.records (S.stored pool.now.store) (view_of self) }
         requires room { HasRoomForStep log.old.log.records (gather_step log.old.log.records
             (written_of pool.now.states) (view_of self)).next }

@@ -1,5 +1,5 @@
 -- The checkpoints of a log, record by record.
-use Rattle.std.proofs.Common.{◌≡◌, ℕ, suc, zero, ◌+◌, ◌<◌, ◌≤◌, List, [], ◌∷◌, ◌++◌, length, take, refl, sym, ap, ◌∙◌}
+use Rattle.std.proofs.Common.{◌≡◌, ℕ, suc, zero, ◌<◌, List, [], ◌∷◌, ◌++◌, length, take, refl, sym, ap, ◌∙◌}
 use Rattle.std.proofs.Common.{arith, inl, inr, subst, get_or, ◌-◌, ◌/◌}
 use Rattle.std.specs.Prelude.{Contains, Option, Some, None, IsSomeAnd}
 use Rattle.std.specs.Option.{option_map}

@@ -198,7 +198,7 @@ impl Ckpt<Pages> {
 impl Ckpt<Txns> {
     /// Whether `txns` would append a record: whether an open transaction is left.
     pub fn would_append(&self, table: &TxnTable) -> bool
-        ensures { (rs : List Record) → IsTableOf rs table.now → IsTrue result
+        ensures { (rs : List Record) → IsTableOf rs table.now.table → IsTrue result
             ↔ IsSome (txns_step rs self.now.phase (txns_ckpt self.now)).next }
     {
         table.next_from(self.phase.from).is_some()
@@ -213,7 +213,7 @@ impl Ckpt<Txns> {
         table: &TxnTable,
     ) -> Result<TxnsStep, Ckpt<Txns>>
         requires ckpt { IsCkptOf log.old.log (txns_ckpt self) }
-        requires table { IsTableOf log.old.log.records table.now }
+        requires table { IsTableOf log.old.log.records table.now.table }
         requires room { HasRoomForStep log.old.log.records
             (txns_step log.old.log.records self.phase (txns_ckpt self)).next }
 
@@ -416,7 +416,7 @@ fn behind(pages: DirtyPages) -> PageNo
 
 /// The record of an open transaction.
 fn txn_record(table: &TxnTable, lsn: Lsn, begin: Lsn, state: &TxnState) -> Record
-    ensures { (rs : List Record) → IsTableOf rs table.now → lsn ≡ end_of rs
+    ensures { (rs : List Record) → IsTableOf rs table.now.table → lsn ≡ end_of rs
         → is_open rs state.now.txn ≡ true → state.now ≡ state_of (entry_of rs state.now.txn)
         → result ≡ txn_record rs begin state.now.txn }
 {

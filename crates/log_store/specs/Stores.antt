@@ -38,8 +38,8 @@ StoresForced called old new device =
 
 -- of a log: its records from one LSN up to another were stored so; then the call of the next one
 -- failed, and no call was made after it
-pub record FailsAtStore {D : Type 0} (called : StoreCall D) (log : Log) (from to : ℕ) (old failed : D)
-    : Type 0 where
+pub record FailsAtStore {D : Type 0} (called : StoreCall D) (log : Log) (from to : ℕ)
+    (old failed : D) : Type 0 where
   pub before_fault : D
   pub stored : StoresEach called old (records_between log.records from to) before_fault
   pub next : Record
@@ -112,5 +112,5 @@ pub data HeaderFails {D : Type 0} (called : StoreCall D) (synced : SyncCall D) (
     (device left : D) : Type 0 where
   at_the_store : (why : DeviceFault) → called device 0 (header_bytes pages) (Err why) left
       → HeaderFails called synced pages device left
-  at_the_sync : (stored : D) (why : DeviceFault) → called device 0 (header_bytes pages) (Ok tt) stored
-      → synced stored (Err why) left → HeaderFails called synced pages device left
+  at_the_sync : (stored : D) (why : DeviceFault)
+      → called device 0 (header_bytes pages) (Ok tt) stored → synced stored (Err why) left → HeaderFails called synced pages device left

@@ -72,7 +72,7 @@ impl Checkpoints {
     /// The record may come next, as far as the checkpoints say.
     #[inline(always)]
     pub fn may_note(&self, txns: &OpenTransactions, next: &Record) -> bool
-        ensures { IsTrue result ↔ MayNoteCheckpoint txns.now self.now next.now }
+        ensures { IsTrue result ↔ MayNoteCheckpoint txns.now.table self.now next.now }
     {
         match *next {
             Record::BeginChkpt { .. } => self.current.is_none(),
@@ -116,7 +116,7 @@ impl Checkpoints {
     }
 
     fn may_close(&self, txns: &OpenTransactions, begin: Lsn, redo: Lsn) -> bool
-        ensures { IsTrue result ↔ IsSomeAnd self.now.current (MayClose txns.now begin redo) }
+        ensures { IsTrue result ↔ IsSomeAnd self.now.current (MayClose txns.now.table begin redo) }
     {
         match self.current {
             Some(open) => open.begin == begin.0

@@ -1,6 +1,7 @@
 //! The device that stores a log: stable storage, in the words of ARIES.
 
-ghost use Rattle.std.specs.Prelude.{ℕ, ◌≡◌, ◌+◌, ◌<◌, ◌≤◌, ◌++◌, List, length, min, take, OnOk, OnErr};
+ghost use Rattle.std.specs.Prelude.{ℕ, ◌≡◌, ◌+◌, ◌<◌, ◌≤◌, ◌++◌, List, length, min, take};
+ghost use Rattle.std.specs.Prelude.{OnErr, OnOk};
 ghost use Rattle.std.specs.Prelude.{Result};
 ghost use Rattle.log_store.specs.Device.{KeepsFirst};
 ghost use Rattle.log_store.specs.declared.device.DeviceFault.{DeviceFault};
@@ -19,7 +20,7 @@ pub trait LogDevice {
     /// say that it always holds.
     ghost called: { Self → ℕ → List ℕ → Result Unit DeviceFault → Self → Type 0 };
 
-    /// What one call of `sync` did: the device before it, what it answered, and the device after it.
+    /// What a call of `sync` did: the device before it, what it answered, and the device after it.
     /// As with `called`, there is no other way to show it than to make the call.
     ghost synced: { Self → Result Unit DeviceFault → Self → Type 0 };
 
@@ -29,8 +30,8 @@ pub trait LogDevice {
     /// How often the device has failed: a number that contracts alone see. It has no last value.
     ghost failures: { Self → ℕ };
 
-    /// Where its stores may fail: none that ends before this offset does, and no sync of fewer bytes.
-    /// It never changes, and is 0 where any call may fail.
+    /// Where its stores may fail: none that ends before this offset does, and no sync of fewer
+    /// bytes. It never changes, and is 0 where any call may fail.
     ghost fails_from: { Self → ℕ };
 
     /// Replaces all bytes of the device from an offset on by these bytes.

@@ -29,7 +29,7 @@ impl Model for History {
     ghost Value = { Made };
 
     ghost view = { λ history. record {
-      table = history.txns;
+      table = history.txns.table;
       checkpoints = history.checkpoints;
       pages = history.pages.items;
     } };
@@ -65,7 +65,7 @@ impl History {
 
     /// The open transactions after all records so far. The rest is let go.
     pub fn into_open(self) -> OpenTransactions
-        ensures { result ≡ self.table }
+        ensures { result.table ≡ self.table }
     {
         self.txns
     }

@@ -178,7 +178,8 @@ fn read_records<R: Read, S: RecordSink>(
     buffer: &mut [u8],
 ) -> Result<(), LogReadFault>
     requires room { 128 ≤ length buffer.old }
-    requires taken { (given : List ℕ) × HasTaken S.holds format scan.old.sink scan.old.history 0 given }
+    requires taken { (given : List ℕ)
+        × HasTaken S.holds format scan.old.sink scan.old.history 0 given }
     ensures known { StaysKnown (R.remaining reader.old) (R.remaining reader.new) }
     ensures end { OnOk result (IsAtEnd (R.remaining reader.new)) }
     ensures found { OnOk result ((given : List ℕ)

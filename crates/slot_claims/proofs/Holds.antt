@@ -5,10 +5,15 @@ use Rattle.std.proofs.lemmas.Nat.Bits.{bit_at_clear_other, bit_at_clear_same, bi
 use Rattle.std.proofs.lemmas.Nat.Bits.{bit_at-zero}
 use Rattle.std.specs.Int.{bit_at, bit_not}
 use Rattle.std.specs.Int.RustNames.{bit_or}
-use Rattle.std.specs.Result.{OnErr, OnOk}
+use Rattle.std.specs.Result.{OnErr}
 use lib.Bits.{bit_and}
 use mir.Syntax.{w64}
-use Rattle.slot_claims.specs.Claims.{hold_in, no_claim, no_hold}
+use Rattle.page_core.specs.declared.change.ChangeKind.{ChangeKind}
+use Rattle.page_core.specs.declared.change.ChangeKind.TheVariants as kinds
+use Rattle.slot_claims.specs.declared.claims.Claims.{Claims}
+use Rattle.slot_claims.specs.declared.claims.Hold.{Hold}
+use Rattle.slot_claims.specs.Claims.{IsFreeFor, IsHeldByOther, KeepsHolds, claim_at, hold_in, no_claim, no_hold}
+use Rattle.slot_claims.specs.Claims.{rows_against}
 use Rattle.slot_claims.specs.RowSet.{has_row, no_rows}
 
 -- ---- bits
@@ -46,10 +51,30 @@ pub on_err_from : {T E : Type 0} (r : Result T E) (P : Type 0) → P → OnErr r
 on_err_from (Ok x) P p = tt
 on_err_from (Err e) P p = p
 
-pub sure_ok : {T E P Q : Type 0} (r : Result T E) → OnOk r P → OnErr r Q → (Q → ⊥) → P
-sure_ok (Ok x) p q never = p
-sure_ok (Err e) p q never = absurd (never q)
-
 pub has_row-no_rows : (row : ℕ) → has_row no_rows row ≡ false
 unfolding has_row
 has_row-no_rows row = ap (λ b. eqb b 1) (bit_at-zero row)
+
+-- ---- claims that say the same of each row
+
+module _ (before after : Claims) (page slot : ℕ) (kind : ChangeKind) (row : ℕ) (same : KeepsHolds before after) where
+  same_against : (other : ℕ) → has_row (rows_against (claim_at after page slot) kind) other
+      ≡ has_row (rows_against (claim_at before page slot) kind) other
+  same_against other = of_kind kind
+    where
+      of_kind : (k : ChangeKind) → has_row (rows_against (claim_at after page slot) k) other
+          ≡ has_row (rows_against (claim_at before page slot) k) other
+      of_kind kinds.Set = ap (λ (h : Hold). h.against_sets) (same page slot other)
+      of_kind kinds.Add = ap (λ (h : Hold). h.against_adds) (same page slot other)
+
+  pub free-before : IsFreeFor (claim_at after page slot) kind row → IsFreeFor (claim_at before page slot) kind row
+  free-before free other within apart = sym (same_against other) ∙ free other within apart
+
+  pub held-before : IsHeldByOther (claim_at after page slot) kind row
+      → IsHeldByOther (claim_at before page slot) kind row
+  held-before held = record {
+    other = held.other;
+    within = held.within;
+    is_other = held.is_other;
+    held = sym (same_against held.other) ∙ held.held;
+  }

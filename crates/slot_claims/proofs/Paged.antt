@@ -103,24 +103,18 @@ module _ {P V : Type 0} (none : P) (in_page : P → ℕ → V) (empty : V) where
 
   -- what is put there says the same
   pub at_still : (pages before : List P) (n : ℕ) (found after : P) → n < length pages → found ≡ get_or pages n found
-      → ((s : ℕ) → in_page after s ≡ in_page found s) → ((p s : ℕ) → at pages p s ≡ at before p s) → (p s : ℕ)
+      → ((s : ℕ) → s < 62 → in_page after s ≡ in_page found s) → ((p s : ℕ) → at pages p s ≡ at before p s)
+      → (p s : ℕ)
       → at (set pages n after) p s ≡ at before p s
-  at_still pages before n found after within there says same p s = here (cases_eq n p) ∙ same p s
+  at_still pages before n found after within there says same p s = here (cases_eq n p) (cases_lt s 62) ∙ same p s
     where
-      here : (n ≡ p) ⊎ (n ≢ p) → at (set pages n after) p s ≡ at pages p s
-      here (inl is) =
+      here : (n ≡ p) ⊎ (n ≢ p) → (s < 62) ⊎ (62 ≤ s) → at (set pages n after) p s ≡ at pages p s
+      here (inl is) (inl fits) =
           ap (λ i. at (set pages n after) i s) (sym is)
           ∙ ap (λ q. cond (ltb s 62) (in_page q s) empty) (get_or-set_same pages n after none within)
-          ∙ ap (λ v. cond (ltb s 62) v empty) (says s
+          ∙ ap (λ v. cond (ltb s 62) v empty) (says s fits
           ∙ ap (λ q. in_page q s) (there ∙ get_or_default pages n found none within))
           ∙ ap (λ i. at pages i s) is
-      here (inr other) =
+      here (inl is) (inr past) = at_no_slot (set pages n after) p s past ∙ sym (at_no_slot pages p s past)
+      here (inr other) fits =
           ap (λ q. cond (ltb s 62) (in_page q s) empty) (get_or-set_other pages n p after none (λ e. other (sym e)))
-
-  -- a page that was put there says of a slot what the list does then
-  pub at_now : (pages : List P) (page slot n t : ℕ) (after : P) → n ≡ page → t ≡ slot → n < length pages → t < 62
-      → at (set pages n after) page slot ≡ in_page after t
-  at_now pages page slot n t after page_is slot_is within below =
-      ap (λ k. at (set pages n after) k slot) (sym page_is) ∙ ap (λ k. at (set pages n after) n k) (sym slot_is)
-      ∙ ap (λ q. cond (ltb t 62) (in_page q t) empty) (get_or-set_same pages n after none within)
-      ∙ ap (λ b. cond b (in_page after t) empty) (lt-ltb t 62 below)

@@ -3,14 +3,17 @@ use Rattle.std.proofs.Common.{◌≡◌, ◌≢◌, ◌⊎◌, ◌∙◌, ◌+�
 use Rattle.std.proofs.Common.{Result, Ok, Err, is_ok, length, get_or, set, take, replicate, cond, eqb, inl, inr, refl}
 use Rattle.std.proofs.Common.{sym, ap, arith}
 use Rattle.std.proofs.lemmas.Bool.{and_from, and_parts, cases_Bool, cases_lt, eq-eqb, eqb-true, false≢true, le-ltb}
-use Rattle.std.proofs.lemmas.Bool.{lt-ltb}
+use Rattle.std.proofs.lemmas.Bool.{lt-ltb, ltb-true}
+use Rattle.std.specs.Prelude.{vec_len}
 use Rattle.std.proofs.lemmas.List.{get_or-append_right, get_or-replicate, get_or-set_other, get_or-set_same}
 use Rattle.std.proofs.lemmas.List.{get_or_append_left, get_or_default, get_or_past, length-replicate, take_all}
 use lib.Dec.{ltb}
 use Rattle.slot_claims.specs.declared.holder_byte.Holder.{Holder}
 use Rattle.slot_claims.specs.declared.holder_byte.Holder.TheVariants.{Nobody}
 use Rattle.slot_claims.specs.declared.holder_byte.HolderByte.{HolderByte}
+use Rattle.slot_claims.specs.declared.marks.Marks.{Marks}
 use Rattle.slot_claims.specs.HolderByte.{holder_of}
+use Rattle.slot_claims.specs.Marks.{has_mark, holder_at}
 
 abbrev pub no_mark : HolderByte
 no_mark = record { byte = 0 }
@@ -112,3 +115,26 @@ slot_there ms page slot n m below is within there =
 pub slot_same : (more ms : List HolderByte) → ((k : ℕ) → holder_in more k ≡ holder_in ms k) → (p s : ℕ)
     → slot_holder more p s ≡ slot_holder ms p s
 slot_same more ms same p s = ap (λ h. cond (ltb s 62) h Nobody) (same (62 * p + s))
+
+-- ---- a slot that has a mark
+
+pub marked : (marks : Marks) (page slot : ℕ) → has_mark marks page slot ≡ true
+    → (slot < 62) × (62 * page + slot < vec_len marks.marks)
+unfolding has_mark
+marked marks page slot has =
+    let both = and_parts (ltb slot 62) (ltb (62 * page + slot) (vec_len marks.marks)) has in
+    (ltb-true slot 62 both.0, ltb-true (62 * page + slot) (vec_len marks.marks) both.1)
+
+-- one that is held has one
+pub held-marked : (marks : Marks) (page slot : ℕ) → (holder_at marks page slot ≡ Nobody → ⊥)
+    → has_mark marks page slot ≡ true
+unfolding has_mark holder_at
+held-marked marks page slot held =
+    let long = marks.marks.ok.0 in
+    elim (cases_lt slot 62) [
+      | inr past ↦ absurd (held (slot_past marks.marks.items page slot past))
+      | inl fits ↦ elim (cases_lt (62 * page + slot) (vec_len marks.marks)) [
+        | inl within ↦ and_from _ _ (lt-ltb slot 62 fits) (lt-ltb _ _ within)
+        | inr behind ↦ absurd (held (slot_behind marks.marks.items page slot (omega (arith, long))))
+      ]
+    ]

@@ -1,5 +1,6 @@
 -- The rows of those who add to one slot together.
-use Rattle.std.specs.Prelude.{ℕ, ◌==◌, nat_lt, slice_index_or, if◌then◌else◌}
+use Rattle.std.specs.Prelude.{ℕ, ◌==◌, ◌&&◌, ◌||◌, Bool, nat_lt, slice_index_or, vec_len}
+use Rattle.std.specs.Prelude.{if◌then◌else◌}
 use Rattle.page_core.specs.declared.page.TheConstants.{SLOTS}
 use Rattle.slot_claims.specs.declared.adders.Adders.{Adders}
 use Rattle.slot_claims.specs.declared.adders.PageAdders.{PageAdders}
@@ -33,3 +34,23 @@ unfoldable pub rows_at : Adders → ℕ → ℕ → RowSet
 rows_at adders page slot =
     if nat_lt slot SLOTS then rows_in (slice_index_or adders.pages.items page no_adders) slot
     else no_rows
+
+-- ---- rows can be put on a slot without memory
+
+-- the slot has a set
+unfoldable pub has_set : SlotSets → ℕ → Bool
+has_set sets slot =
+    nat_lt (slice_index_or sets.places slot 0) (vec_len sets.sets)
+    && (slice_index_or sets.sets.items (slice_index_or sets.places slot 0)
+    (record { slot = 0; rows = no_rows })).slot == slot
+
+-- the slot has a set of its page, or none has rows
+abbrev pub has_set_in : PageAdders → ℕ → Bool
+has_set_in (One held rows) slot = held == slot || rows.bits == 0
+has_set_in (Several sets) slot = has_set sets.value slot
+
+-- so it is of a slot of all pages
+unfoldable pub has_set_at : Adders → ℕ → ℕ → Bool
+has_set_at adders page slot =
+    nat_lt slot SLOTS && nat_lt page (vec_len adders.pages)
+    && has_set_in (slice_index_or adders.pages.items page no_adders) slot

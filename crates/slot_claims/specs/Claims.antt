@@ -1,5 +1,6 @@
 -- Which open transactions keep others from a slot, by their rows.
-use Rattle.std.specs.Prelude.{ℕ, ◌≡◌, ◌≢◌, ◌<◌, ◌==◌, ◌&&◌, true, false, Option, Some, None}
+use Rattle.std.specs.Prelude.{ℕ, ◌≡◌, ◌≢◌, ◌<◌, ◌==◌, ◌&&◌, ◌||◌, Bool, true, false}
+use Rattle.std.specs.Prelude.{Option, Some, None}
 use Rattle.std.specs.Prelude.{if◌then◌else◌}
 use Rattle.page_core.specs.declared.change.ChangeKind.{ChangeKind}
 use Rattle.page_core.specs.declared.change.ChangeKind.TheVariants as kind
@@ -10,8 +11,8 @@ use Rattle.slot_claims.specs.declared.holder_byte.Holder.{Holder}
 use Rattle.slot_claims.specs.declared.holder_byte.Holder.TheVariants.{Nobody, One, Adders}
 use Rattle.slot_claims.specs.declared.row_set.RowSet.{RowSet}
 use Rattle.slot_claims.specs.declared.row_set.TheConstants.{ROWS}
-use Rattle.slot_claims.specs.Adders.{rows_at}
-use Rattle.slot_claims.specs.Marks.{holder_at}
+use Rattle.slot_claims.specs.Adders.{has_set_at, rows_at}
+use Rattle.slot_claims.specs.Marks.{has_mark, holder_at}
 use Rattle.slot_claims.specs.RowSet.{has_row, no_rows, only}
 
 -- ---- what one transaction keeps out of a slot
@@ -72,6 +73,20 @@ claim_at claims page slot =
 
 abbrev pub hold_at : Claims → ℕ → ℕ → ℕ → Hold
 hold_at claims page slot row = hold_in (claim_at claims page slot) row
+
+-- ---- room for a change
+
+-- a change by the row's transaction leaves the rows of the slot's adders alone
+abbrev pub is_alone : Holder → ℕ → Bool
+is_alone Nobody row = true
+is_alone (One holder kind) row = holder == row
+is_alone Adders row = false
+
+-- the row's transaction can take a slot without memory
+unfoldable pub has_room : Claims → ℕ → ℕ → ℕ → Bool
+has_room claims page slot row =
+    has_mark claims.marks page slot
+    && (is_alone (holder_at claims.marks page slot) row || has_set_at claims.adders page slot)
 
 -- ---- a change of the claims
 

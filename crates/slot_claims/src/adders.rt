@@ -1,7 +1,8 @@
 //! The rows of the transactions that have added to one slot.
 
 ghost use Rattle.std.specs.Prelude.{ℕ, ◌≡◌, ◌<◌, ◌≤◌, ◌==◌, ◌&&◌, OnOk, OnErr, IfOk};
-ghost use Rattle.std.specs.Prelude.{if◌then◌else◌, vec_len};
+ghost use Rattle.std.specs.Prelude.{if◌then◌else◌, vec_len, true, false};
+ghost use Rattle.slot_claims.specs.Adders.{has_set, has_set_at, has_set_in};
 ghost use Rattle.slot_claims.specs.Adders.{rows_among, rows_at, rows_in};
 ghost use Rattle.slot_claims.specs.RowSet.{IsWith, no_rows};
 
@@ -43,68 +44,46 @@ impl PageAdders {
         }
     }
 
-    /// Puts these rows on a slot. Where it had none, this may need memory.
+    /// Puts these rows on a slot for which there is room.
     #[inline(always)]
-    fn put(&mut self, alloc: Global, slot: u16, rows: RowSet) -> Result<(), AllocError>
-        requires { slot < SLOTS }
-        ensures put { OnOk result ((s : ℕ) → s < SLOTS → rows_in self.new s
-            ≡ (if slot == s then rows else rows_in self.old s)) }
-        ensures new_slot { OnErr result (rows_in self.old slot ≡ no_rows) }
-        ensures err { OnErr result ((s : ℕ) → rows_in self.new s ≡ rows_in self.old s) }
+    fn put(&mut self, slot: u16, rows: RowSet)
+        requires slot { slot < SLOTS }
+        requires room { has_set_in self.old slot ≡ true }
+        ensures { (s : ℕ) → s < SLOTS → rows_in self.new s
+            ≡ (if slot == s then rows else rows_in self.old s) }
     {
         match self {
             PageAdders::One {
                 slot: held,
                 rows: there,
             } => {
-                if *held == slot || there.is_empty() {
-                    *held = slot;
-                    *there = rows;
-                } else {
-                    let both = sets_with(alloc, *held, *there, slot, rows)?;
-                    *self = PageAdders::Several(both);
-                }
-                Ok(())
+                *held = slot;
+                *there = rows;
             }
             PageAdders::Several(sets) => sets.put(slot, rows),
         }
     }
 
-    /// Puts a row into the set of a slot, or takes it out of it, and answers the set as it was.
-    /// Where it had no rows, this may need memory.
+    /// Makes room for the rows of a slot. An `Err` comes where memory for it is refused. The rows
+    /// stay.
     #[inline(always)]
-    fn put_row(
-        &mut self,
-        alloc: Global,
-        slot: u16,
-        row: u8,
-        present: bool,
-    ) -> Result<RowSet, AllocError>
-        requires slot { slot < SLOTS }
-        requires row { row < ROWS }
-        ensures was { IfOk result (λ was. was ≡ rows_in self.old slot) }
-        ensures now { OnOk result (IsWith (rows_in self.new slot) (rows_in self.old slot)
-            row present) }
-        ensures put { OnOk result ((s : ℕ) → s < SLOTS → rows_in self.new s
-            ≡ (if slot == s then rows_in self.new slot else rows_in self.old s)) }
-        ensures new_slot { OnErr result (rows_in self.old slot ≡ no_rows) }
-        ensures err { OnErr result ((s : ℕ) → rows_in self.new s ≡ rows_in self.old s) }
+    fn make_room(&mut self, alloc: Global, slot: u16) -> Result<(), AllocError>
+        requires { slot < SLOTS }
+        ensures room { OnOk result (has_set_in self.new slot ≡ true) }
+        ensures needed { OnErr result (has_set_in self.old slot ≡ false) }
+        ensures same { (s : ℕ) → s < SLOTS → rows_in self.new s ≡ rows_in self.old s }
     {
         match self {
-            PageAdders::One {
-                slot: held,
-                rows: there,
-            } => {
-                if *held == slot {
-                    let was = *there;
-                    *there = was.with(row, present);
-                    return Ok(was);
+            PageAdders::One { slot: held, rows } => {
+                if *held == slot || rows.is_empty() {
+                    return Ok(());
                 }
+                let both = sets_of(alloc, *held, *rows, slot)?;
+                *self = PageAdders::Several(both);
+                Ok(())
             }
-            PageAdders::Several(sets) => return sets.put_row(slot, row, present),
+            PageAdders::Several(sets) => sets.make_room(slot),
         }
-        self.put(alloc, slot, RowSet::new().with(row, present))?;
-        Ok(RowSet::new())
     }
 }
 
@@ -136,55 +115,54 @@ impl Adders {
         self.pages[page.0 as usize].rows(slot.0)
     }
 
-    /// Puts these rows on a slot. Where it had none, this may need memory, and is refused on a
-    /// slot that no page has.
-    pub fn put(&mut self, page: PageNo, slot: SlotNo, rows: RowSet) -> Result<(), AllocError>
-        ensures put { OnOk result ((p s : ℕ) → rows_at self.new p s
-            ≡ (if page == p && slot == s then rows else rows_at self.old p s)) }
-        ensures new_slot { OnErr result (rows_at self.old page slot ≡ no_rows) }
-        ensures err { OnErr result ((p s : ℕ) → rows_at self.new p s ≡ rows_at self.old p s) }
+    /// Puts these rows on a slot for which there is room.
+    pub fn put(&mut self, page: PageNo, slot: SlotNo, rows: RowSet)
+        requires { has_set_at self.old page slot ≡ true }
+        ensures { (p s : ℕ) → rows_at self.new p s
+            ≡ (if page == p && slot == s then rows else rows_at self.old p s) }
     {
-        if slot.0 as usize >= SLOTS {
-            return Err(AllocError);
-        }
-        self.make_page(page.0 as usize)?;
-        let alloc = *self.pages.allocator();
-        self.pages[page.0 as usize].put(alloc, slot.0, rows)
+        self.pages[page.0 as usize].put(slot.0, rows)
     }
 
-    /// Puts a row into the set of a slot, or takes it out of it, and answers the set as it was.
-    /// Memory and refusals are as for `put`.
+    /// Puts a row into the set of a slot for which there is room, or takes it out of it, and
+    /// answers the set as it was.
     #[inline(always)]
-    pub fn put_row(
-        &mut self,
-        page: PageNo,
-        slot: SlotNo,
-        row: u8,
-        present: bool,
-    ) -> Result<RowSet, AllocError>
-        requires { row < ROWS }
-        ensures was { IfOk result (λ was. was ≡ rows_at self.old page slot) }
-        ensures now { OnOk result (IsWith (rows_at self.new page slot)
-            (rows_at self.old page slot) row present) }
-        ensures put { OnOk result ((p s : ℕ) → rows_at self.new p s
+    pub fn put_row(&mut self, page: PageNo, slot: SlotNo, row: u8, present: bool) -> RowSet
+        requires row { row < ROWS }
+        requires room { has_set_at self.old page slot ≡ true }
+        ensures was { result ≡ rows_at self.old page slot }
+        ensures now { IsWith (rows_at self.new page slot) (rows_at self.old page slot)
+            row present }
+        ensures put { (p s : ℕ) → rows_at self.new p s
             ≡ (if page == p && slot == s then rows_at self.new page slot
-            else rows_at self.old p s)) }
-        ensures new_slot { OnErr result (rows_at self.old page slot ≡ no_rows) }
-        ensures err { OnErr result ((p s : ℕ) → rows_at self.new p s ≡ rows_at self.old p s) }
+            else rows_at self.old p s) }
+    {
+        let was = self.rows(page, slot);
+        self.put(page, slot, was.with(row, present));
+        was
+    }
+
+    /// Makes room for the rows of a slot. An `Err` comes where memory for it is refused, or no page
+    /// has the slot. The rows stay.
+    pub fn make_room(&mut self, page: PageNo, slot: SlotNo) -> Result<(), AllocError>
+        ensures room { OnOk result (has_set_at self.new page slot ≡ true) }
+        ensures needed { OnErr result (has_set_at self.old page slot ≡ false) }
+        ensures same { (p s : ℕ) → rows_at self.new p s ≡ rows_at self.old p s }
     {
         if slot.0 as usize >= SLOTS {
             return Err(AllocError);
         }
         self.make_page(page.0 as usize)?;
         let alloc = *self.pages.allocator();
-        self.pages[page.0 as usize].put_row(alloc, slot.0, row, present)
+        self.pages[page.0 as usize].make_room(alloc, slot.0)
     }
 
     /// Makes room for a page, where it is behind those with room.
     #[inline(always)]
     fn make_page(&mut self, page: usize) -> Result<(), AllocError>
         ensures ok { OnOk result (page < vec_len self.new.pages) }
-        ensures err { OnErr result (vec_len self.new.pages ≤ page) }
+        ensures needed { OnErr result (vec_len self.old.pages ≤ page) }
+        ensures there { page < vec_len self.old.pages → self.new ≡ self.old }
         ensures same { (p s : ℕ) → rows_at self.new p s ≡ rows_at self.old p s }
     {
         if page < self.pages.len() {
@@ -198,7 +176,6 @@ impl Adders {
     #[inline(never)]
     fn make_pages(&mut self, page: usize) -> Result<(), AllocError>
         ensures ok { OnOk result (page < vec_len self.new.pages) }
-        ensures err { OnErr result (vec_len self.new.pages ≤ page) }
         ensures same { (p s : ℕ) → rows_at self.new p s ≡ rows_at self.old p s }
     {
         while self.pages.len() <= page {
@@ -208,24 +185,20 @@ impl Adders {
     }
 }
 
-/// The sets of a page of which two slots have rows.
+/// The sets of a page of which one slot has these rows, and another one none yet.
 #[cold]
 #[inline(never)]
-fn sets_with(
-    alloc: Global,
-    held: u16,
-    there: RowSet,
-    slot: u16,
-    rows: RowSet,
-) -> Result<Box<SlotSets>, AllocError>
+fn sets_of(alloc: Global, held: u16, there: RowSet, slot: u16) -> Result<Box<SlotSets>, AllocError>
     requires { slot < SLOTS }
-    ensures { IfOk result (λ sets. (s : ℕ) → s < SLOTS → rows_among sets.value s
-        ≡ (if slot == s then rows else (if held == s then there else no_rows))) }
+    ensures room { IfOk result (λ sets. has_set sets.value slot ≡ true) }
+    ensures rows { IfOk result (λ sets. (s : ℕ) → s < SLOTS → rows_among sets.value s
+        ≡ (if held == s then there else no_rows)) }
 {
     let mut sets = SlotSets::new(alloc);
     if (held as usize) < SLOTS {
-        sets.put(held, there)?;
+        sets.make_room(held)?;
+        sets.put(held, there);
     }
-    sets.put(slot, rows)?;
+    sets.make_room(slot)?;
     Ok(Box::new(alloc, sets)?)
 }

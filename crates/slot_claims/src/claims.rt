@@ -1,10 +1,10 @@
 //! Which open transactions have claims on a slot, by their rows.
 
-ghost use Rattle.std.specs.Prelude.{ℕ, ◌≡◌, ◌≢◌, ◌<◌, ◌==◌, IfOk, IsTrue, OnErr};
-ghost use Rattle.std.specs.Prelude.{if◌then◌else◌, false};
+ghost use Rattle.std.specs.Prelude.{ℕ, ◌≡◌, ◌≢◌, ◌<◌, ◌==◌, IsTrue, OnErr, OnOk};
+ghost use Rattle.std.specs.Prelude.{if◌then◌else◌, false, true};
 ghost use Rattle.slot_claims.specs.declared.row_set.RowSet.{RowSet};
-ghost use Rattle.slot_claims.specs.Claims.{IsWeaker, KeepsHolds, SetsHold, Takes, claim_at};
-ghost use Rattle.slot_claims.specs.Claims.{claim_of};
+ghost use Rattle.slot_claims.specs.Claims.{IsWeaker, KeepsHolds, SetsHold, Taken, Takes};
+ghost use Rattle.slot_claims.specs.Claims.{claim_at, claim_of, has_room};
 ghost use Rattle.slot_claims.specs.Claims.{hold_at, hold_in, hold_with, no_claim, no_hold};
 ghost use Rattle.slot_claims.specs.Claims.{rows_against};
 ghost use Rattle.slot_claims.specs.HolderByte.{HasRow};
@@ -142,32 +142,49 @@ impl Claims {
         self.marks.look(page, slot)
     }
 
-    /// Takes a slot for one more pending change of the transaction of this row, and answers what
-    /// the transaction kept out before; None where another one keeps the change out. Where there is
-    /// no memory for it, nothing changes; so it is on a slot that no page has.
+    /// Makes room for a change of a slot by the transaction of this row: `take` needs no memory
+    /// then. An `Err` comes where memory for it is refused, or no page has the slot. The claims
+    /// stay.
     #[inline(always)]
-    pub fn take(
-        &mut self,
-        page: PageNo,
-        slot: SlotNo,
-        row: u8,
-        kind: ChangeKind,
-    ) -> Result<Option<Hold>, AllocError>
-        requires { row < ROWS }
-        ensures ok { IfOk result (Takes self.old self.new page slot row kind) }
-        ensures err { OnErr result (KeepsHolds self.old self.new) }
+    pub fn make_room(&mut self, page: PageNo, slot: SlotNo, row: u8) -> Result<(), AllocError>
+        ensures room { OnOk result (has_room self.new page slot row ≡ true) }
+        ensures needed { OnErr result (has_room self.old page slot row ≡ false) }
+        ensures same { KeepsHolds self.old self.new }
+    {
+        self.marks.make_room(page, slot)?;
+        match self.marks.holder(page, slot) {
+            Holder::Nobody => Ok(()),
+            Holder::One { row: holder, .. } => {
+                if holder == row {
+                    Ok(())
+                } else {
+                    self.adders.make_room(page, slot)
+                }
+            }
+            Holder::Adders => self.adders.make_room(page, slot),
+        }
+    }
+
+    /// Takes a slot, for which there is room, for one more pending change of the transaction of
+    /// this row, and answers what the transaction kept out before; None where another one keeps the
+    /// change out, and nothing changes.
+    #[inline(always)]
+    pub fn take(&mut self, page: PageNo, slot: SlotNo, row: u8, kind: ChangeKind) -> Option<Hold>
+        requires row { row < ROWS }
+        requires room { has_room self.old page slot row ≡ true }
+        ensures { Takes self.old self.new page slot row kind result }
     {
         match self.marks.holder(page, slot) {
             Holder::Nobody => {
-                self.marks.put(page, slot, Holder::One { row, kind })?;
-                Ok(Some(Hold::new()))
+                self.marks.put(page, slot, Holder::One { row, kind });
+                Some(Hold::new())
             }
             Holder::One {
                 row: holder,
                 kind: held,
             } => {
                 if holder == row {
-                    self.keep(page, slot, row, held, kind)
+                    Some(self.keep(page, slot, row, held, kind))
                 } else {
                     self.share(page, slot, row, holder, held, kind)
                 }
@@ -184,15 +201,15 @@ impl Claims {
         row: u8,
         held: ChangeKind,
         kind: ChangeKind,
-    ) -> Result<Option<Hold>, AllocError>
+    ) -> Hold
         requires row { row < ROWS }
+        requires room { has_room self.old page slot row ≡ true }
         requires held { holder_at self.old.marks page slot ≡ Holder.One row held }
-        ensures ok { IfOk result (Takes self.old self.new page slot row kind) }
-        ensures err { OnErr result (KeepsHolds self.old self.new) }
+        ensures { Taken self.old self.new page slot row kind result }
     {
         let kind = stronger(held, kind);
-        self.marks.put(page, slot, Holder::One { row, kind })?;
-        Ok(Some(Hold::by(held)))
+        self.marks.put(page, slot, Holder::One { row, kind });
+        Hold::by(held)
     }
 
     /// Takes a slot that another transaction holds by itself: the two may only add to it.
@@ -204,51 +221,45 @@ impl Claims {
         holder: u8,
         held: ChangeKind,
         kind: ChangeKind,
-    ) -> Result<Option<Hold>, AllocError>
+    ) -> Option<Hold>
         requires row { row < ROWS }
+        requires room { has_room self.old page slot row ≡ true }
         requires holder { holder < ROWS }
         requires other { holder ≢ row }
         requires held { holder_at self.old.marks page slot ≡ Holder.One holder held }
-        ensures ok { IfOk result (Takes self.old self.new page slot row kind) }
-        ensures err { OnErr result (KeepsHolds self.old self.new) }
+        ensures { Takes self.old self.new page slot row kind result }
     {
         match (held, kind) {
             (ChangeKind::Add, ChangeKind::Add) => {
                 let both = RowSet::only(holder).with(row, true);
-                self.adders.put(page, slot, both)?;
-                self.marks.put(page, slot, Holder::Adders)?;
-                Ok(Some(Hold::new()))
+                self.adders.put(page, slot, both);
+                self.marks.put(page, slot, Holder::Adders);
+                Some(Hold::new())
             }
-            _ => Ok(None),
+            _ => None,
         }
     }
 
     /// Takes a slot that others may add to.
     #[inline(always)]
-    fn join(
-        &mut self,
-        page: PageNo,
-        slot: SlotNo,
-        row: u8,
-        kind: ChangeKind,
-    ) -> Result<Option<Hold>, AllocError>
+    fn join(&mut self, page: PageNo, slot: SlotNo, row: u8, kind: ChangeKind) -> Option<Hold>
         requires row { row < ROWS }
+        requires room { has_room self.old page slot row ≡ true }
         requires held { holder_at self.old.marks page slot ≡ Holder.Adders }
-        ensures ok { IfOk result (Takes self.old self.new page slot row kind) }
-        ensures err { OnErr result (KeepsHolds self.old self.new) }
+        ensures { Takes self.old self.new page slot row kind result }
     {
         match kind {
             ChangeKind::Add => {
-                let adders = self.adders.put_row(page, slot, row, true)?;
-                Ok(Some(Hold::among(adders, row)))
+                let adders = self.adders.put_row(page, slot, row, true);
+                Some(Hold::among(adders, row))
             }
             ChangeKind::Set => {
                 let adders = self.adders.rows(page, slot);
                 if !adders.with(row, false).is_empty() {
-                    return Ok(None);
+                    return None;
                 }
-                self.marks.put(page, slot, Holder::One { row, kind })?;
-                Ok(Some(Hold::among(adders, row)))
+                self.marks.put(page, slot, Holder::One { row, kind });
+                Some(Hold::among(adders, row))
             }
         }
     }
@@ -263,9 +274,7 @@ impl Claims {
     {
         match self.marks.holder(page, slot) {
             Holder::Adders => self.leave(page, slot, row, before),
-            _ => {
-                let _ = self.marks.put(page, slot, holder_by(row, before));
-            }
+            _ => self.marks.put(page, slot, holder_by(row, before)),
         }
     }
 

@@ -1,9 +1,9 @@
 //! The holders of all slots.
 
 ghost use Rattle.std.specs.Prelude.{ℕ, ◌≡◌, ◌+◌, ◌*◌, ◌<◌, ◌≤◌, ◌==◌, ◌&&◌, OnOk, OnErr, vec_len};
-ghost use Rattle.std.specs.Prelude.{if◌then◌else◌};
+ghost use Rattle.std.specs.Prelude.{if◌then◌else◌, true, false};
 ghost use Rattle.slot_claims.specs.HolderByte.{HasRow};
-ghost use Rattle.slot_claims.specs.Marks.{holder_at};
+ghost use Rattle.slot_claims.specs.Marks.{has_mark, holder_at};
 
 use crate::holder_byte::{Holder, HolderByte};
 use page_core::{PageNo, SLOTS, SlotNo};
@@ -54,24 +54,32 @@ impl Marks {
         }
     }
 
-    /// Puts this holder on a slot. Where nobody holds it, this may need memory, and is refused on a
-    /// slot that no page has.
-    pub fn put(&mut self, page: PageNo, slot: SlotNo, holder: Holder) -> Result<(), AllocError>
-        requires { HasRow holder }
-        ensures put { OnOk result ((p s : ℕ) → holder_at self.new p s
-            ≡ (if page == p && slot == s then holder else holder_at self.old p s)) }
-        ensures new_slot { OnErr result (holder_at self.old page slot ≡ Holder.Nobody) }
-        ensures err { OnErr result ((p s : ℕ) → holder_at self.new p s ≡ holder_at self.old p s) }
+    /// Makes room for the holder of a slot. An `Err` comes where memory for it is refused, or no
+    /// page has the slot. The holders stay.
+    #[inline(always)]
+    pub fn make_room(&mut self, page: PageNo, slot: SlotNo) -> Result<(), AllocError>
+        ensures room { OnOk result (has_mark self.new page slot ≡ true) }
+        ensures needed { OnErr result (has_mark self.old page slot ≡ false) }
+        ensures same { (p s : ℕ) → holder_at self.new p s ≡ holder_at self.old p s }
     {
         if slot.0 as usize >= SLOTS {
             return Err(AllocError);
         }
-        let place = place_of(page, slot);
-        if place >= self.marks.len() {
-            self.make_page(page)?;
+        if place_of(page, slot) < self.marks.len() {
+            return Ok(());
         }
-        self.marks[place] = HolderByte::of(holder);
-        Ok(())
+        self.make_page(page)
+    }
+
+    /// Puts this holder on a slot for which there is room.
+    #[inline(always)]
+    pub fn put(&mut self, page: PageNo, slot: SlotNo, holder: Holder)
+        requires row { HasRow holder }
+        requires room { has_mark self.old page slot ≡ true }
+        ensures { (p s : ℕ) → holder_at self.new p s
+            ≡ (if page == p && slot == s then holder else holder_at self.old p s) }
+    {
+        self.marks[place_of(page, slot)] = HolderByte::of(holder);
     }
 
     /// Makes room for a page that is behind those with room.

@@ -1,11 +1,11 @@
 //! The sets of rows of several slots of one page.
 
-ghost use Rattle.std.specs.Prelude.{ℕ, ◌≡◌, ◌<◌, ◌==◌, OnOk, OnErr, IfOk};
+ghost use Rattle.std.specs.Prelude.{ℕ, ◌≡◌, ◌<◌, ◌==◌, OnOk, OnErr, true, false};
 ghost use Rattle.std.specs.Prelude.{if◌then◌else◌};
-ghost use Rattle.slot_claims.specs.Adders.{rows_among};
-ghost use Rattle.slot_claims.specs.RowSet.{IsWith, no_rows};
+ghost use Rattle.slot_claims.specs.Adders.{has_set, rows_among};
+ghost use Rattle.slot_claims.specs.RowSet.{no_rows};
 
-use crate::row_set::{ROWS, RowSet};
+use crate::row_set::RowSet;
 use page_core::SLOTS;
 use std::alloc::{AllocError, Global};
 
@@ -51,62 +51,52 @@ impl SlotSets {
         }
     }
 
-    /// Puts these rows on a slot. Where it had none, this may need memory.
+    /// Puts these rows on a slot that has a set.
     #[inline(always)]
-    pub fn put(&mut self, slot: u16, rows: RowSet) -> Result<(), AllocError>
+    pub fn put(&mut self, slot: u16, rows: RowSet)
+        requires slot { slot < SLOTS }
+        requires room { has_set self.old slot ≡ true }
+        ensures { (s : ℕ) → s < SLOTS → rows_among self.new s
+            ≡ (if slot == s then rows else rows_among self.old s) }
+    {
+        let place = self.places[slot as usize] as usize;
+        self.sets[place].rows = rows;
+    }
+
+    /// Makes room for the rows of a slot: it gets a set, where it has none. An `Err` comes where
+    /// memory for it is refused. The rows stay.
+    pub fn make_room(&mut self, slot: u16) -> Result<(), AllocError>
         requires { slot < SLOTS }
-        ensures put { OnOk result ((s : ℕ) → s < SLOTS → rows_among self.new s
-            ≡ (if slot == s then rows else rows_among self.old s)) }
-        ensures new_slot { OnErr result (rows_among self.old slot ≡ no_rows) }
-        ensures err { OnErr result ((s : ℕ) → rows_among self.new s ≡ rows_among self.old s) }
+        ensures room { OnOk result (has_set self.new slot ≡ true) }
+        ensures needed { OnErr result (has_set self.old slot ≡ false) }
+        ensures same { (s : ℕ) → s < SLOTS → rows_among self.new s ≡ rows_among self.old s }
     {
         let place = self.places[slot as usize] as usize;
         if place < self.sets.len() && self.sets[place].slot == slot {
-            self.sets[place].rows = rows;
             return Ok(());
         }
-        self.add(slot, rows)
+        self.add(slot)
     }
 
-    /// Puts a row into the set of a slot, or takes it out of it, and answers the set as it was.
-    /// Where it had no rows, this may need memory.
-    #[inline(always)]
-    pub fn put_row(&mut self, slot: u16, row: u8, present: bool) -> Result<RowSet, AllocError>
-        requires slot { slot < SLOTS }
-        requires row { row < ROWS }
-        ensures was { IfOk result (λ was. was ≡ rows_among self.old slot) }
-        ensures now { OnOk result (IsWith (rows_among self.new slot) (rows_among self.old slot)
-            row present) }
-        ensures put { OnOk result ((s : ℕ) → s < SLOTS → rows_among self.new s
-            ≡ (if slot == s then rows_among self.new slot else rows_among self.old s)) }
-        ensures new_slot { OnErr result (rows_among self.old slot ≡ no_rows) }
-        ensures err { OnErr result ((s : ℕ) → rows_among self.new s ≡ rows_among self.old s) }
-    {
-        let place = self.places[slot as usize] as usize;
-        if place < self.sets.len() && self.sets[place].slot == slot {
-            let was = self.sets[place].rows;
-            self.sets[place].rows = was.with(row, present);
-            return Ok(was);
-        }
-        self.add(slot, RowSet::new().with(row, present))?;
-        Ok(RowSet::new())
-    }
-
-    /// Puts these rows on a slot that has none.
+    /// Gives a slot that has none a set without rows.
     #[cold]
     #[inline(never)]
-    fn add(&mut self, slot: u16, rows: RowSet) -> Result<(), AllocError>
-        requires { slot < SLOTS }
-        ensures put { OnOk result ((s : ℕ) → s < SLOTS → rows_among self.new s
-            ≡ (if slot == s then rows else rows_among self.old s)) }
-        ensures err { OnErr result ((s : ℕ) → rows_among self.new s ≡ rows_among self.old s) }
+    fn add(&mut self, slot: u16) -> Result<(), AllocError>
+        requires slot { slot < SLOTS }
+        requires absent { has_set self.old slot ≡ false }
+        ensures room { OnOk result (has_set self.new slot ≡ true) }
+        ensures needed { OnErr result (has_set self.old slot ≡ false) }
+        ensures same { (s : ℕ) → s < SLOTS → rows_among self.new s ≡ rows_among self.old s }
     {
         // Each slot has one set at most, so there are fewer.
         let place = self.sets.len();
         if place > u8::MAX as usize {
             return Err(AllocError);
         }
-        self.sets.push(SlotRows { slot, rows })?;
+        self.sets.push(SlotRows {
+            slot,
+            rows: RowSet::new(),
+        })?;
         self.places[slot as usize] = place as u8;
         Ok(())
     }

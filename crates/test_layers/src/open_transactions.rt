@@ -89,6 +89,10 @@ enum Step {
     Note(Record),
     /// The record may not come next.
     Refused(Record),
+    /// Room is made for a change of a slot by a transaction.
+    Room(u32, SlotNo),
+    /// None can be had.
+    NoRoom(u32, SlotNo),
     /// Who holds a slot against a change of this kind by a transaction.
     Holder(SlotNo, ChangeKind, TxnNo, Option<TxnNo>),
     /// The numbers of a transaction.
@@ -112,6 +116,11 @@ fn is_as_wanted(table: &mut OpenTransactions, step: &Step) -> Result<bool, Alloc
             may
         }
         Step::Refused(record) => !table.may_note(&record),
+        Step::Room(txn, slot) => {
+            table.make_room(TxnNo(txn), PAGE, slot)?;
+            true
+        }
+        Step::NoRoom(txn, slot) => table.make_room(TxnNo(txn), PAGE, slot).is_err(),
         Step::Holder(slot, kind, txn, want) => { table.holder(PAGE, slot, kind, txn) == want }
         Step::State(txn, want) => table.state(TxnNo(txn)) == want,
         Step::Next(from, want) => table.next_from(TxnNo(from)) == want,
@@ -332,6 +341,33 @@ fn seats_are_taken_again(rt: HostRuntime) -> Result<(), AllocError> {
         Step::Next(64, Some(begun_state(4096, 64))),
         Step::Next(65, Some(reused)),
         Step::Next(66, None),
+    ];
+    take_over(&rt, table, &steps)
+}
+
+/// Room may be made for one change or several, and is there for a slot that others add to as well;
+/// it changes nothing else. No page has a slot past the last one.
+#[test]
+fn room_comes_before_a_change(rt: HostRuntime) -> Result<(), AllocError> {
+    let table = OpenTransactions::new(rt.alloc());
+    let steps = [
+        Step::Room(1, SLOT),
+        Step::Note(begin(64, 1)),
+        Step::Note(begin(128, 2)),
+        Step::Room(1, SLOT),
+        Step::Counts(2, 2, 4),
+        Step::Holder(SLOT, ChangeKind::Set, TxnNo(2), None),
+        Step::Note(update(192, 1, 64, SLOT, ADD)),
+        Step::Room(2, SLOT),
+        Step::Room(2, SlotNo(9)),
+        Step::Note(update(256, 2, 128, SLOT, ADD)),
+        Step::Note(update(320, 2, 256, SlotNo(9), ADD)),
+        Step::Room(1, SlotNo(9)),
+        Step::Note(update(384, 1, 192, SlotNo(9), ADD)),
+        Step::Holder(SLOT, ChangeKind::Set, TxnNo(1), Some(TxnNo(2))),
+        Step::Holder(SlotNo(9), ChangeKind::Set, TxnNo(2), Some(TxnNo(1))),
+        Step::NoRoom(1, SlotNo(62)),
+        Step::Counts(2, 2, 8),
     ];
     take_over(&rt, table, &steps)
 }

@@ -1,6 +1,6 @@
 -- Who keeps a slot from a transaction: the claims say of its row what the table says of it.
-use Rattle.std.proofs.Common.{◌≡◌, ◌≢◌, ◌∙◌, ◌<◌, ◌∷◌, ◌&&◌, [], ℕ, zero, suc, Bool, true, false, not, List, Option}
-use Rattle.std.proofs.Common.{Some, None, map, length, get_or, set, cond, eqb, inl, inr, refl, sym, ap, arith}
+use Rattle.std.proofs.Common.{◌≡◌, ◌≢◌, ◌∙◌, ◌<◌, ◌∷◌, ◌&&◌, ◌++◌, [], ℕ, zero, suc, Bool, true, false, not, List, Option}
+use Rattle.std.proofs.Common.{Some, None, map, length, get_or, set, cond, eqb, inl, inr, refl, sym, ap, arith, subst}
 use Rattle.std.proofs.lemmas.Bool.{and_from, and_right, cases_eq, eq-eqb, false≢true, ne_eqb}
 use Rattle.std.specs.List.{find}
 use Rattle.std.specs.Option.{option_map}
@@ -12,14 +12,15 @@ use Rattle.slot_claims.specs.declared.claims.Hold.{Hold}
 use Rattle.txn_table.specs.declared.open_entry.OpenEntry.{OpenEntry}
 use Rattle.txn_table.specs.declared.open_list.OpenList.{OpenList}
 use Rattle.log_rules.specs.declared.pending_change.PendingChange.{PendingChange}
-use Rattle.slot_claims.specs.Claims.{IsFreeFor, IsHeldByOther, claim_at, hold_in, no_hold, rows_against}
+use Rattle.slot_claims.specs.Claims.{IsFreeFor, IsHeldByOther, KeepsHolds, claim_at, hold_in, no_hold, rows_against}
 use Rattle.txn_table.specs.OpenEntry.{Updates, changes_of, entry_view, hold_among, hold_by}
 use Rattle.txn_table.specs.OpenList.{Sits, entries_in, entries_of}
 use Rattle.txn_table.specs.OpenTransactions.{IsStored, NotesIfMay, Tracks}
 use Rattle.slot_claims.specs.RowSet.{has_row}
-use Rattle.log_rules.specs.Table.{IsActiveEntry, Table, entry_after, holder_in, with_entry}
+use Rattle.log_rules.specs.Table.{IsActiveEntry, Table, TxnEntry, entry_after, holder_in, with_entry}
 use Rattle.log_records.specs.declared.record.Record.TheVariants.{Update}
 use Rattle.page_core.specs.Change.{kind_of}
+use Rattle.slot_claims.proofs.Public.{free-before, held-before}
 use Rattle.txn_table.proofs.Ranks.{one-of}
 use Rattle.txn_table.proofs.Stored.{at-row, says-here, view-changed, view-stays}
 use Rattle.txn_table.proofs.Tracked.{IsAt, least-holder}
@@ -120,6 +121,21 @@ module _ {begun i t : ℕ} {xs : List OpenEntry} {x : OpenEntry} {claims : Claim
       false≢true (sym (none-fails is_holder xs place.0 x place.1.0 nobody)
       ∙ and_from (not (eqb e.txn t)) (has_row rows e.row) (ap not (ne_eqb e.txn t apart))
       (ap (has_row rows) place.1.1 ∙ held.held))
+
+-- ---- an entry that got room makes a change as it would have without
+
+pub updates-before : (before after : Claims) (x y z : OpenEntry) (c : PendingChange) → KeepsHolds before after
+    → entry_view y ≡ entry_view x → y.row ≡ x.row → (may : Bool) → Updates after y z c may → Updates before x z c may
+updates-before before after x y z c same view row true up = (
+  free-before before after c.page c.slot (kind_of c.change) x.row same
+      (subst (IsFreeFor (claim_at after c.page c.slot) (kind_of c.change)) row up.0),
+  up.1 ∙ ap (λ (v : TxnEntry). let w : TxnEntry = record v { last = c.lsn; pending = v.pending ++ c ∷ [] } in w) view,
+)
+updates-before before after x y z c same view row false up = (
+  held-before before after c.page c.slot (kind_of c.change) x.row same
+      (subst (IsHeldByOther (claim_at after c.page c.slot) (kind_of c.change)) row up.0),
+  up.1 ∙ view,
+)
 
 -- ---- a change is taken, or somebody keeps it out
 

@@ -1,4 +1,3 @@
-pub mod Ahead
 pub mod Beside
 pub mod Comps
 pub mod Going
@@ -9,13 +8,13 @@ pub mod Savepoints
 pub mod Searches
 pub mod Stacks
 pub mod Tables
-pub mod PendingAhead
 pub mod CountsUpTo
 pub mod Barred
 pub mod Firsts
 pub mod Losing
 pub mod Pendings
 pub mod Ranks
+pub mod Rooms
 pub mod RowPlaces
 pub mod Stored
 pub mod Tracked

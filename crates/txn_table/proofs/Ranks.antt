@@ -135,19 +135,17 @@ view-remove t (x ∷ xs) (suc i) d r l h =
     ap (λ b. cond (not b) (entry_view x ∷ rest) rest) (ne_eqb x.txn t apart)
     ∙ ap (λ vs. entry_view x ∷ vs) (view-remove t xs i d r.1 lt h)
 
-pub find-place : (t : ℕ) (xs : List OpenEntry) (i : ℕ) (d : OpenEntry) → AreRanked (map key_of xs)
-    → i < length xs → (get_or xs i d).txn ≡ t
-    → find (λ v. eqb v.txn t) (map entry_view xs) ≡ Some (entry_view (get_or xs i d))
-find-place t [] i d r l h = absurd (omega arith)
-find-place t (x ∷ xs) zero d r l h =
-    ap (λ b. cond b (Some (entry_view x)) (find (λ v. eqb v.txn t) (map entry_view xs))) (eq-eqb x.txn t h)
-find-place t (x ∷ xs) (suc i) d r l h =
+pub find-at : (t : ℕ) (xs : List OpenEntry) (i : ℕ) (d : OpenEntry) → AreRanked (map key_of xs)
+    → i < length xs → (get_or xs i d).txn ≡ t → find (λ e. eqb e.txn t) xs ≡ Some (get_or xs i d)
+find-at t [] i d r l h = absurd (omega arith)
+find-at t (x ∷ xs) zero d r l h = ap (λ b. cond b (Some x) (find (λ e. eqb e.txn t) xs)) (eq-eqb x.txn t h)
+find-at t (x ∷ xs) (suc i) d r l h =
     let lt : i < length xs = omega arith in
     let before = all-at (λ k. (x.txn < k.0) × (k.1 ≢ x.row)) xs i d r.0 lt in
     let apart : x.txn ≢ t = λ same. (let below : x.txn < t
     = subst (λ n. x.txn < n) h before.0 in absurd (omega arith)) in
-    ap (λ b. cond b (Some (entry_view x)) (find (λ v. eqb v.txn t) (map entry_view xs))) (ne_eqb x.txn t apart)
-    ∙ find-place t xs i d r.1 lt h
+    ap (λ b. cond b (Some x) (find (λ e. eqb e.txn t) xs)) (ne_eqb x.txn t apart)
+    ∙ find-at t xs i d r.1 lt h
 
 -- ---- what they keep out
 

@@ -4,7 +4,7 @@ use Rattle.std.proofs.Common.{cond, eqb, inl, inr, not, refl, sym, ap, subst, ar
 use Rattle.std.proofs.lemmas.Bool.{cases_lt}
 use Rattle.std.proofs.lemmas.List.{get_or-set_same, length-set, set-get_or}
 use Rattle.std.proofs.lemmas.List.Folds.{find_at}
-use Rattle.std.proofs.lemmas.Option.{get_or_from_slice_get, slice_get-map, slice_get_past}
+use Rattle.std.proofs.lemmas.Option.{get_or_from_slice_get, slice_get_past}
 use Rattle.std.specs.List.{filter, find, list_any, position_or_len, remove, slice_get}
 use Rattle.std.specs.Option.{IsSome, IsSomeAnd, option_map}
 use Rattle.slot_claims.specs.declared.claims.Claims.{Claims}
@@ -39,14 +39,6 @@ no-changes (p ∷ ps) none = cc
 pub missing-txn : (txn : ℕ) (xs : List OpenEntry) → find (λ e. eqb e.txn txn) xs ≡ None
     → find (λ v. eqb v.txn txn) (map entry_view xs) ≡ None
 missing-txn txn xs none = find-view (λ v. eqb v.txn txn) xs ∙ ap (option_map entry_view) none
-
--- the entry at a place
-pub one-at : (xs : List OpenEntry) (i : ℕ) (x : OpenEntry) → slice_get xs i ≡ Some x
-    → slice_get (map entry_view xs) i ≡ Some (entry_view x)
-one-at xs i x at = slice_get-map entry_view xs i ∙ ap (option_map entry_view) at
-
-pub nobody-at : (xs : List OpenEntry) (i : ℕ) → slice_get xs i ≡ None → slice_get (map entry_view xs) i ≡ None
-nobody-at xs i none = slice_get-map entry_view xs i ∙ ap (option_map entry_view) none
 
 module _ {begun txn row : ℕ} {claims : Claims} {list : OpenList} {x : OpenEntry}
     (stored : IsStored begun claims list)
@@ -88,17 +80,6 @@ module _ {begun txn row : ℕ} {claims : Claims} {list : OpenList} {x : OpenEntr
     row = same_row;
     held = subst (λ ps. IsHeld claims e.row ps) (sym same_items)
         (subst (λ n. IsHeld claims n x.pending.items) (sym same_row) (held-at at-row stored.tracks));
-    others = λ page slot other within apart. refl;
-  }
-
-  -- what it keeps out stays
-  pub keeps-claims : (e : OpenEntry) → e.txn ≡ x.txn → e.row ≡ x.row
-      → ((row : ℕ) → IsHeld claims row x.pending.items → IsHeld claims row e.pending.items)
-      → KeepsRow x e claims claims
-  keeps-claims e same_txn same_row held = record {
-    txn = same_txn;
-    row = same_row;
-    held = held e.row (subst (λ n. IsHeld claims n x.pending.items) (sym same_row) (held-at at-row stored.tracks));
     others = λ page slot other within apart. refl;
   }
 

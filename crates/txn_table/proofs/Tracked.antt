@@ -24,8 +24,9 @@ use Rattle.log_rules.specs.Transactions.{keeps_out}
 use Rattle.log_records.specs.Least.{least}
 use Rattle.txn_table.specs.TxnState.{next_in}
 use Rattle.txn_table.proofs.Firsts.{cond_map, least-first}
+use Rattle.log_rules.proofs.Public.{find-map}
 use Rattle.slot_claims.proofs.Public.{hold_in-no_claim}
-use Rattle.txn_table.proofs.Ranks.{find-place, all-push, all-remove, hold-at, hold-push, hold-remove, hold-set}
+use Rattle.txn_table.proofs.Ranks.{find-at, all-push, all-remove, hold-at, hold-push, hold-remove, hold-set}
 use Rattle.txn_table.proofs.Ranks.{keys-set, ranked-push, ranked-remove, view-remove, view-set}
 
 -- ---- one of them
@@ -112,17 +113,9 @@ remove-set (x ∷ xs) (suc i) e l = ap (λ ys. x ∷ ys) (remove-set xs i e (ome
 
 -- ---- look-ups
 
-pushed : (b : Bool) (x : OpenEntry) (o : Option OpenEntry)
-    → cond b (Some (entry_view x)) (option_map entry_view o) ≡ option_map entry_view (cond b (Some x) o)
-pushed true x o = refl
-pushed false x o = refl
-
 pub find-view : (q : TxnEntry → Bool) (xs : List OpenEntry)
     → find q (map entry_view xs) ≡ option_map entry_view (find (λ e. q (entry_view e)) xs)
-find-view q [] = refl
-find-view q (x ∷ xs) =
-    ap (λ o. cond (q (entry_view x)) (Some (entry_view x)) o) (find-view q xs)
-    ∙ pushed (q (entry_view x)) x (find (λ e. q (entry_view e)) xs)
+find-view q xs = find-map entry_view q xs
 
 pub no-place : (b : Bool) (n : ℕ) → cond b (Some n) None ≡ None → b ≡ false
 no-place true n e = cc
@@ -138,6 +131,18 @@ pub record IsAt (xs : List OpenEntry) (i t : ℕ) (x : OpenEntry) : Type 0 where
 pub is-there : {X : Type 0} (o : Option X) → IsSome o → o ≡ None → ⊥
 is-there (Some x) s e = cc
 is-there None s e = false≢true s
+
+-- ---- what an entry keeps, in two steps
+
+pub keeps-then : {x y z : OpenEntry} {a b c : Claims} → KeepsRow x y a b → KeepsRow y z b c → KeepsRow x z a c
+keeps-then {x} {y} {z} {a} {b} {c} first next = record {
+  txn = next.txn ∙ first.txn;
+  row = next.row ∙ first.row;
+  held = next.held;
+  others = λ page slot other within apart.
+      next.others page slot other within (λ is. apart (is ∙ first.row))
+      ∙ first.others page slot other within apart;
+}
 
 -- ---- a change of the entry at a place
 
@@ -155,6 +160,21 @@ module _ {begun i t : ℕ} {xs : List OpenEntry} {x : OpenEntry} {before : Claim
   view-put g e is =
       view-set g t xs i x e tracks.ranked at.within (ap (λ (y : OpenEntry). y.txn) at.there ∙ at.txn)
       (is ∙ ap (λ (y : OpenEntry). g (entry_view y)) (sym at.there))
+
+  -- a search for its number finds it, and what is put in its place
+  pub finds-it : find (λ e. eqb e.txn t) xs ≡ Some x
+  finds-it =
+      find-at t xs i x tracks.ranked at.within (ap (λ (e : OpenEntry). e.txn) at.there ∙ at.txn) ∙ ap Some at.there
+
+  pub finds-put : (e : OpenEntry) → e.txn ≡ x.txn → e.row ≡ x.row → find (λ y. eqb y.txn t) (set xs i e) ≡ Some e
+  finds-put e txn row =
+      let there : get_or (set xs i e) i x ≡ e = get_or-set_same xs i e x at.within in
+      let keys = keys-set xs i x e at.within (txn ∙ ap (λ (y : OpenEntry). y.txn) (sym at.there))
+      (row ∙ ap (λ (y : OpenEntry). y.row) (sym at.there)) in
+      find-at t (set xs i e) i x (subst AreRanked (sym keys) tracks.ranked)
+      (let l : i < length (set xs i e) = rw (length-set xs i e) at.within in l)
+      (ap (λ (y : OpenEntry). y.txn) there ∙ txn ∙ at.txn)
+      ∙ ap Some there
 
   pub view-same : (e : OpenEntry) → entry_view e ≡ entry_view x → map entry_view (set xs i e) ≡ map entry_view xs
   view-same e is =
@@ -234,5 +254,6 @@ pub entry-there : {begun : ℕ} {claims : Claims} {xs : List OpenEntry} (i : ℕ
     → i < length xs
     → x ≡ get_or xs i x → find (λ v. eqb v.txn x.txn) (map entry_view xs) ≡ Some (entry_view x)
 entry-there {begun} {claims} {xs} i x tracks l there =
-    find-place x.txn xs i x tracks.ranked l (ap (λ (e : OpenEntry). e.txn) (sym there))
+    find-view (λ v. eqb v.txn x.txn) xs
+    ∙ ap (option_map entry_view) (find-at x.txn xs i x tracks.ranked l (ap (λ (e : OpenEntry). e.txn) (sym there)))
     ∙ ap (λ e. Some (entry_view e)) (sym there)

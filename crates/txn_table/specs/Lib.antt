@@ -1,7 +1,6 @@
 pub mod Resumed
 pub mod Returns
 pub mod TxnTable
-pub mod Ahead
 pub mod CountUpTo
 pub mod OpenEntry
 pub mod OpenList

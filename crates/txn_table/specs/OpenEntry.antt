@@ -1,6 +1,6 @@
 -- An open transaction as the table stores it.
 use Rattle.std.specs.Prelude.{ℕ, ◌≡◌, ◌≢◌, ◌<◌, ◌==◌, Bool, true, false, List, [], ◌∷◌, ◌++◌, map}
-use Rattle.std.specs.Prelude.{if◌then◌else◌}
+use Rattle.std.specs.Prelude.{if◌then◌else◌, ◌&&◌, nat_lt, vec_capacity, vec_len}
 use Rattle.std.specs.List.{list_any}
 use Rattle.page_core.specs.declared.change.ChangeKind.TheVariants as kind
 use Rattle.page_core.specs.Change.{kind_of}
@@ -9,7 +9,7 @@ use Rattle.slot_claims.specs.declared.claims.Hold.{Hold}
 use Rattle.txn_table.specs.declared.open_entry.OpenEntry.{OpenEntry}
 use Rattle.log_rules.specs.declared.pending_change.PendingChange.{PendingChange}
 use Rattle.slot_claims.specs.declared.row_set.TheConstants.{ROWS}
-use Rattle.slot_claims.specs.Claims.{IsFreeFor, IsHeldByOther, claim_at, hold_at, no_hold}
+use Rattle.slot_claims.specs.Claims.{IsFreeFor, IsHeldByOther, claim_at, has_room, hold_at, no_hold}
 use Rattle.txn_table.specs.Pending.{Pending}
 use Rattle.log_rules.specs.Table.{TxnEntry}
 use Rattle.log_rules.specs.Transactions.{keeps_out}
@@ -85,6 +85,11 @@ pub record KeepsRow (old new : OpenEntry) (before after : Claims) : Type 0 where
   pub row : new.row ≡ old.row
   pub held : IsHeld after new.row new.pending.items
   pub others : KeepsOtherRows old.row before after
+
+-- it can make one more change of a slot without memory
+unfoldable pub entry_has_room : Claims → OpenEntry → ℕ → ℕ → Bool
+entry_has_room claims e page slot =
+    nat_lt (vec_len e.pending) (vec_capacity e.pending) && has_room claims page slot e.row
 
 -- ---- all of them
 

@@ -1,15 +1,35 @@
 -- The open transactions as the table stores them.
-use Rattle.std.specs.Prelude.{ℕ, ◌≡◌, ◌≢◌, ◌<◌, ◌≤◌, Bool, true, false, List, [], ◌∷◌, map}
-use Rattle.std.specs.List.{All, AllByRecursion}
+use Rattle.std.specs.Prelude.{ℕ, ◌≡◌, ◌≢◌, ◌<◌, ◌≤◌, ◌==◌, Bool, true, false, List, [], ◌∷◌, map}
+use Rattle.std.specs.List.{All, AllByRecursion, find}
+use Rattle.std.specs.Option.{option_map_or}
 use Rattle.slot_claims.specs.declared.claims.Claims.{Claims}
 use Rattle.txn_table.specs.declared.open_entry.OpenEntry.{OpenEntry}
 use Rattle.txn_table.specs.declared.open_list.OpenList.{OpenList}
 use Rattle.log_records.specs.declared.record.Record.{Record}
+use Rattle.log_records.specs.declared.record.Record.TheVariants.{Update}
 use Rattle.slot_claims.specs.declared.row_set.TheConstants.{ROWS}
 use Rattle.slot_claims.specs.Claims.{hold_at}
-use Rattle.txn_table.specs.OpenEntry.{AreStacked, hold_among}
+use Rattle.txn_table.specs.OpenEntry.{AreStacked, entry_has_room, hold_among}
 use Rattle.txn_table.specs.OpenList.{IsSound, entries_in}
+use Rattle.log_rules.specs.Growth.{MayGrow}
 use Rattle.log_rules.specs.Table.{MayNote, Table, noted}
+
+-- the table, and how it is stored, on which it depends for which changes there is room
+pub record OpenView : Type 0 where
+  pub table : Table
+  pub claims : Claims
+  pub entries : List OpenEntry
+
+-- an open transaction can make one more change of a slot without memory
+unfoldable pub has_room_in : OpenView → ℕ → ℕ → ℕ → Bool
+has_room_in view txn page slot =
+    option_map_or (λ e. entry_has_room view.claims e page slot)
+    (find (λ e. e.txn == txn) view.entries) false
+
+-- a record can be noted without memory
+abbrev pub HasRoomFor : OpenView → Record → Type 0
+HasRoomFor view (Update lsn txn prev page slot change) = has_room_in view txn page slot ≡ true
+HasRoomFor view r = ¬ MayGrow r
 
 -- the number of a transaction, and its row
 abbrev pub key_of : OpenEntry → ℕ × ℕ

@@ -1,5 +1,5 @@
-//! The open transactions of a log: what each has done and may still undo, which slots it holds, and to where it may go
-//! back.
+//! The open transactions of a log: what each has done and may still undo, which slots it holds, and
+//! to where it may go back.
 #![tactic(auto)]
 
 mod laws;

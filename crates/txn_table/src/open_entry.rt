@@ -1,12 +1,12 @@
 //! One open transaction: its numbers, and its pending changes as a stack.
 
-ghost use Rattle.std.specs.Prelude.{ℕ, ◌≡◌, ◌<◌, ◌↔◌, [], IfOk, IsSomeAnd, IsTrue, OnErr};
-ghost use Rattle.slot_claims.specs.declared.claims.Claims.{Claims};
+ghost use Rattle.std.specs.Prelude.{ℕ, ◌≡◌, ◌<◌, ◌↔◌, [], IsSomeAnd, IsTrue, OnErr, OnOk};
+ghost use Rattle.std.specs.Prelude.{true, false, vec_capacity, vec_len};
+ghost use Rattle.slot_claims.specs.Claims.{KeepsHolds, has_room};
 ghost use Rattle.txn_table.specs.CountUpTo.{IsCountUpTo};
-ghost use Rattle.txn_table.specs.Ahead.{entry_back, entry_with_before, last_with_before};
 ghost use Rattle.log_rules.specs.Linked.{Compensates};
 ghost use Rattle.txn_table.specs.OpenEntry.{IsBegun, IsHeld, KeepsOtherRows, Pushes};
-ghost use Rattle.txn_table.specs.OpenEntry.{changes_of};
+ghost use Rattle.txn_table.specs.OpenEntry.{changes_of, entry_has_room};
 ghost use Rattle.log_rules.specs.Transactions.{without_last};
 
 use crate::pending::Pending;
@@ -30,29 +30,28 @@ pub struct OpenEntry {
 }
 
 /// Adds a pending change and takes its slot, unless another transaction keeps it out. Answers
-/// whether it did. An `Err` changes nothing.
+/// whether it did. There is room for both.
 #[inline(always)]
 fn push_pending(
     pending: &mut Vec<Pending>,
     claims: &mut Claims,
     row: u8,
     change: PendingChange,
-) -> Result<bool, AllocError>
+) -> bool
     requires row { row < ROWS }
     requires held { IsHeld claims.old row pending.old.items }
-    ensures ok { IfOk result (Pushes claims.old pending.old.items pending.new.items row change) }
-    ensures err { OnErr result (pending.new.items ≡ pending.old.items) }
+    requires spare { vec_len pending.old < vec_capacity pending.old }
+    requires room { has_room claims.old change.page change.slot row ≡ true }
+    ensures pushed { Pushes claims.old pending.old.items pending.new.items row change result }
     ensures held { IsHeld claims.new row pending.new.items }
     ensures others { KeepsOtherRows row claims.old claims.new }
 {
-    // With room for it, the push cannot fail.
-    pending.reserve(1)?;
     let kind = change.change.kind();
-    let Some(before) = claims.take(change.page, change.slot, row, kind)? else {
-        return Ok(false);
+    let Some(before) = claims.take(change.page, change.slot, row, kind) else {
+        return false;
     };
-    let _ = pending.push(Pending::of(change, before));
-    Ok(true)
+    pending.push_reserved(Pending::of(change, before));
+    true
 }
 
 /// Takes the last pending change away, and what it kept out.
@@ -80,18 +79,6 @@ fn drain_pending(pending: &mut Vec<Pending>, claims: &mut Claims, row: u8)
 {
     while !pending.is_empty() {
         pop_pending(pending, claims, row);
-    }
-}
-
-/// The last change had this number before it, where it is a Set.
-fn set_last_before(pending: &mut Vec<Pending>, before: u64)
-    ensures changes { changes_of pending.new.items
-        ≡ last_with_before (changes_of pending.old.items) before }
-    ensures held { (claims : Claims) (row : ℕ) → IsHeld claims row pending.old.items
-        → IsHeld claims row pending.new.items }
-{
-    if let Some(last) = pending.last_mut() {
-        last.set_before(before);
     }
 }
 
@@ -181,22 +168,43 @@ impl OpenEntry {
         self.pending.clear();
     }
 
-    /// The transaction makes a change, unless another one keeps it out: its Update has this
-    /// change's LSN. Answers whether it did. An `Err` changes nothing.
+    /// Makes room for a change of a slot: `update` needs no memory then. An `Err` comes where
+    /// memory for it is refused, or no page has the slot. The transaction stays.
     #[inline(always)]
-    pub fn update(&mut self, claims: &mut Claims, change: PendingChange) -> Result<bool, AllocError>
+    pub fn make_room(
+        &mut self,
+        claims: &mut Claims,
+        page: PageNo,
+        slot: SlotNo,
+    ) -> Result<(), AllocError>
         requires row { self.old.row < ROWS }
         requires held { IsHeld claims.old self.old.row self.old.pending.items }
-        ensures ok { IfOk result (Updates claims.old self.old self.new change) }
-        ensures err { OnErr result (entry_view self.new ≡ entry_view self.old) }
+        ensures room { OnOk result (entry_has_room claims.new self.new page slot ≡ true) }
+        ensures needed { OnErr result (entry_has_room claims.old self.old page slot ≡ false) }
+        ensures entry { entry_view self.new ≡ entry_view self.old }
+        ensures claims { KeepsHolds claims.old claims.new }
+        ensures kept { KeepsRow self.old self.new claims.old claims.new }
+    {
+        self.pending.reserve(1)?;
+        claims.make_room(page, slot, self.row)
+    }
+
+    /// The transaction makes a change for which there is room, unless another one keeps it out: its
+    /// Update has this change's LSN. Answers whether it did.
+    #[inline(always)]
+    pub fn update(&mut self, claims: &mut Claims, change: PendingChange) -> bool
+        requires row { self.old.row < ROWS }
+        requires held { IsHeld claims.old self.old.row self.old.pending.items }
+        requires room { entry_has_room claims.old self.old change.page change.slot ≡ true }
+        ensures updated { Updates claims.old self.old self.new change result }
         ensures kept { KeepsRow self.old self.new claims.old claims.new }
     {
         let lsn = change.lsn;
-        let may = push_pending(&mut self.pending, claims, self.row, change)?;
+        let may = push_pending(&mut self.pending, claims, self.row, change);
         if may {
             self.last = lsn;
         }
-        Ok(may)
+        may
     }
 
     /// The transaction takes its last pending change back, by a compensation record of this LSN.
@@ -208,27 +216,6 @@ impl OpenEntry {
     {
         pop_pending(&mut self.pending, claims, self.row);
         self.last = lsn;
-    }
-
-    /// Takes the last change back, as if it had not come: the record before it has this LSN.
-    pub fn take_back(&mut self, claims: &mut Claims, prev: Lsn)
-        requires row { self.old.row < ROWS }
-        requires held { IsHeld claims.old self.old.row self.old.pending.items }
-        ensures entry { entry_view self.new ≡ entry_back prev (entry_view self.old) }
-        ensures kept { KeepsRow self.old self.new claims.old claims.new }
-    {
-        pop_pending(&mut self.pending, claims, self.row);
-        self.last = prev;
-    }
-
-    /// The last change had this number before it, where it is a Set.
-    pub fn set_before(&mut self, before: u64)
-        ensures entry { entry_view self.new ≡ entry_with_before before (entry_view self.old) }
-        ensures same { (self.new.txn ≡ self.old.txn) × (self.new.row ≡ self.old.row) }
-        ensures held { (claims : Claims) (row : ℕ) → IsHeld claims row self.old.pending.items
-            → IsHeld claims row self.new.pending.items }
-    {
-        set_last_before(&mut self.pending, before);
     }
 
     /// The transaction begins to roll back, by an Abort of this LSN.

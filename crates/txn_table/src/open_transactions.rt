@@ -1,17 +1,16 @@
 //! The table of open transactions.
 
 ghost use Rattle.std.specs.Prelude.{ℕ, ◌≡◌, ◌↔◌, min, IfOk, IsTrue, IsSomeAnd, OnOk, OnErr};
-ghost use Rattle.std.specs.Prelude.{MatchOption, IfSome, IsSome, None, [], length, slice_get};
+ghost use Rattle.std.specs.Prelude.{MatchOption, IfSome, IsSome, None, [], false, length, true};
+ghost use Rattle.std.specs.Prelude.{slice_get};
 ghost use Rattle.std.specs.Option.{option_and_then, option_map};
-ghost use Rattle.txn_table.specs.Ahead.{entry_back, entry_with_before, with_changed};
 ghost use Rattle.txn_table.specs.CountUpTo.{IsCountUpTo};
-ghost use Rattle.log_rules.specs.Growth.{MayGrow};
 ghost use Rattle.log_rules.specs.Linked.{Compensates};
 ghost use Rattle.log_rules.specs.CheckpointTable.{HasOldEntries};
 ghost use Rattle.log_rules.specs.Table.{IsEntryNow};
 ghost use Rattle.log_rules.specs.Table.{IsActiveEntry, IsChained, MayNote, entry_in, holder_in};
 ghost use Rattle.log_rules.specs.Table.{noted, owed_in};
-ghost use Rattle.txn_table.specs.OpenTransactions.{NotesIfMay};
+ghost use Rattle.txn_table.specs.OpenTransactions.{HasRoomFor, NotesIfMay, has_room_in};
 ghost use Rattle.log_rules.specs.Transactions.{last_of};
 ghost use Rattle.log_records.specs.declared.record.Record.TheVariants.{Begin, Update, Comp, Commit};
 ghost use Rattle.log_records.specs.declared.record.Record.TheVariants.{Abort, End};
@@ -37,16 +36,20 @@ pub struct OpenTransactions {
 }
 
 impl Model for OpenTransactions {
-    ghost use Rattle.log_rules.specs.Table.{Table};
+    ghost use Rattle.txn_table.specs.OpenTransactions.{OpenView};
 
-    ghost Value = { Table };
+    ghost Value = { OpenView };
 
     ghost use Rattle.std.specs.Prelude.{map};
     ghost use Rattle.txn_table.specs.OpenEntry.{entry_view};
     ghost use Rattle.txn_table.specs.OpenList.{entries_in};
     ghost use Rattle.txn_table.specs.OpenTransactions.{IsStored};
 
-    ghost view = { λ t. record { begun = t.begun; entries = map entry_view (entries_in t.list) } };
+    ghost view = { λ t. record {
+      table = record { begun = t.begun; entries = map entry_view (entries_in t.list) };
+      claims = t.claims;
+      entries = entries_in t.list;
+    } };
 
     ghost invariant = { λ t. IsStored t.begun t.claims t.list };
 }
@@ -56,7 +59,7 @@ impl OpenTransactions {
 
     /// Before the first record: no transaction began.
     pub fn new(alloc: Global) -> OpenTransactions
-        ensures { result ≡ record { begun = 0; entries = [] } }
+        ensures { result.table ≡ record { begun = 0; entries = [] } }
     {
         OpenTransactions {
             begun: 0,
@@ -67,7 +70,7 @@ impl OpenTransactions {
 
     /// The open ones at the end of the log, where no more records come but those of undo.
     pub fn into_losers(self) -> Losers
-        ensures { result ≡ self.entries }
+        ensures { result ≡ self.table.entries }
     {
         let OpenTransactions { list, .. } = self;
         Losers::of(list)
@@ -75,14 +78,14 @@ impl OpenTransactions {
 
     /// How many transactions began. The next one has the number after this.
     pub fn begun(&self) -> u32
-        ensures { result ≡ self.now.begun }
+        ensures { result ≡ self.now.table.begun }
     {
         self.begun
     }
 
     /// How many transactions are open.
     pub fn open_count(&self) -> usize
-        ensures { result ≡ length self.now.entries }
+        ensures { result ≡ length self.now.table.entries }
     {
         self.list.len()
     }
@@ -90,7 +93,7 @@ impl OpenTransactions {
     /// The least other open transaction that holds a slot against a change of this kind by `txn`;
     /// None where nobody does. It looks at one claim, and at no pending change.
     pub fn holder(&self, page: PageNo, slot: SlotNo, kind: ChangeKind, txn: TxnNo) -> Option<TxnNo>
-        ensures { result ≡ holder_in self.now page slot kind txn }
+        ensures { result ≡ holder_in self.now.table page slot kind txn }
     {
         let rows = self.claims.claim(page, slot).against(kind);
         self.list.first_other(rows, txn)
@@ -104,7 +107,7 @@ impl OpenTransactions {
 
     /// The numbers of an open transaction; None where it is not open.
     pub fn state(&self, txn: TxnNo) -> Option<TxnState>
-        ensures { result ≡ option_map state_of (entry_in self.now txn) }
+        ensures { result ≡ option_map state_of (entry_in self.now.table txn) }
     {
         match self.list.row_of(txn) {
             Some(row) => Some(self.list.rows[row as usize].state()),
@@ -114,7 +117,7 @@ impl OpenTransactions {
 
     /// The last pending change of an open transaction; None where it has none or is not open.
     pub fn last_pending(&self, txn: TxnNo) -> Option<PendingChange>
-        ensures { MatchOption (entry_in self.now txn) (result ≡ None)
+        ensures { MatchOption (entry_in self.now.table txn) (result ≡ None)
             (λ e. result ≡ last_of e.pending) }
     {
         match self.list.row_of(txn) {
@@ -126,7 +129,7 @@ impl OpenTransactions {
     /// The pending change of an open transaction at this place, the oldest at 0; None where there
     /// is none.
     pub fn pending_at(&self, txn: TxnNo, place: usize) -> Option<PendingChange>
-        ensures { MatchOption (entry_in self.now txn) (result ≡ None)
+        ensures { MatchOption (entry_in self.now.table txn) (result ≡ None)
             (λ e. result ≡ slice_get e.pending place) }
     {
         match self.list.row_of(txn) {
@@ -138,7 +141,7 @@ impl OpenTransactions {
     /// How many pending changes of an open transaction have an LSN up to this one, where their LSNs
     /// rise. The time is logarithmic in their number.
     pub fn pending_up_to(&self, txn: TxnNo, lsn: Lsn) -> usize
-        ensures { IfSome (entry_in self.now txn) (λ e. IsCountUpTo e.pending lsn result) }
+        ensures { IfSome (entry_in self.now.table txn) (λ e. IsCountUpTo e.pending lsn result) }
     {
         match self.list.row_of(txn) {
             Some(row) => self.list.rows[row as usize].pending_up_to(lsn),
@@ -149,7 +152,7 @@ impl OpenTransactions {
     /// The open transaction with the least number at or above `from`; None where there is none.
     pub fn next_from(&self, from: TxnNo) -> Option<TxnState>
         ensures { result ≡ option_map state_of
-            (option_and_then (entry_in self.now) (next_in self.now from)) }
+            (option_and_then (entry_in self.now.table) (next_in self.now.table from)) }
     {
         match self.list.first_from(from) {
             Some(row) => Some(self.list.rows[row as usize].state()),
@@ -161,7 +164,7 @@ impl OpenTransactions {
     /// of each that has none, and the last of each. A number that is too large for the type is cut
     /// to the largest one.
     pub fn owed(&self) -> u64
-        ensures { result ≡ min (owed_in self.now) u64.MAX }
+        ensures { result ≡ min (owed_in self.now.table) u64.MAX }
     {
         self.list.owed()
     }
@@ -170,7 +173,7 @@ impl OpenTransactions {
     /// names the number that is in its slot, and what the open checkpoint has, they do not say.
     #[inline(always)]
     pub fn may_note(&self, next: &Record) -> bool
-        ensures { IsTrue result ↔ MayNote self.now next.now }
+        ensures { IsTrue result ↔ MayNote self.now.table next.now }
     {
         match *next {
             Record::Begin { txn, .. } => {
@@ -218,7 +221,7 @@ impl OpenTransactions {
 
     /// The transaction is open and does not roll back, and `prev` is its last record.
     fn is_active(&self, txn: TxnNo, prev: Lsn) -> bool
-        ensures { IsTrue result ↔ IsSomeAnd (entry_in self.now txn) (IsActiveEntry prev) }
+        ensures { IsTrue result ↔ IsSomeAnd (entry_in self.now.table txn) (IsActiveEntry prev) }
     {
         match self.state(txn) {
             Some(state) => state.last == prev && !state.rolling,
@@ -230,7 +233,7 @@ impl OpenTransactions {
     /// UndoNxt.
     #[inline(always)]
     fn is_now(&self, txn: TxnNo, phase: TxnPhase, last: Lsn, undo_next: Lsn) -> bool
-        ensures { IsTrue result ↔ IsSomeAnd (entry_in self.now txn)
+        ensures { IsTrue result ↔ IsSomeAnd (entry_in self.now.table txn)
             (IsEntryNow phase last undo_next) }
     {
         match self.state(txn) {
@@ -246,7 +249,7 @@ impl OpenTransactions {
 
     /// Each open transaction that began before an LSN is among these.
     pub fn began_before_are_among(&self, lsn: Lsn, txns: &[u32]) -> bool
-        ensures { IsTrue result ↔ HasOldEntries self.now lsn txns.now }
+        ensures { IsTrue result ↔ HasOldEntries self.now.table lsn txns.now }
     {
         self.list.are_among(lsn, txns)
     }
@@ -261,7 +264,7 @@ impl OpenTransactions {
         slot: SlotNo,
         change: Change,
     ) -> bool
-        ensures { IsTrue result ↔ IsSomeAnd (entry_in self.now txn) (λ e. IsChained prev e
+        ensures { IsTrue result ↔ IsSomeAnd (entry_in self.now.table txn) (λ e. IsChained prev e
             × IsSomeAnd (last_of e.pending) (Compensates undo_next page slot change)) }
     {
         match self.state(txn) {
@@ -278,10 +281,10 @@ impl OpenTransactions {
     /// none, nothing changes. A Commit or an End takes time in proportion to the changes that the
     /// transaction still had pending.
     pub fn note(&mut self, next: &Record) -> Result<(), AllocError>
-        requires { MayNote self.old next.now }
-        ensures ok { OnOk result (self.new ≡ noted self.old next.now) }
-        ensures err { OnErr result (self.new ≡ self.old) }
-        ensures growth { OnErr result (MayGrow next.now) }
+        requires { MayNote self.old.table next.now }
+        ensures ok { OnOk result (self.new.table ≡ noted self.old.table next.now) }
+        ensures err { OnErr result (self.new.table ≡ self.old.table) }
+        ensures needed { OnErr result (¬ HasRoomFor self.old next.now) }
     {
         let _ = self.note_if_may(next)?;
         Ok(())
@@ -291,9 +294,9 @@ impl OpenTransactions {
     /// whether it may. Memory and time are as for `note`.
     #[inline(always)]
     pub fn note_if_may(&mut self, next: &Record) -> Result<bool, AllocError>
-        ensures ok { IfOk result (NotesIfMay self.old self.new next.now) }
-        ensures err { OnErr result (self.new ≡ self.old) }
-        ensures growth { OnErr result (MayGrow next.now) }
+        ensures ok { IfOk result (NotesIfMay self.old.table self.new.table next.now) }
+        ensures err { OnErr result (self.new.table ≡ self.old.table) }
+        ensures needed { OnErr result (¬ HasRoomFor self.old next.now) }
     {
         match *next {
             Record::Begin { lsn, txn } => self.begin(lsn, txn),
@@ -340,35 +343,28 @@ impl OpenTransactions {
         }
     }
 
-    /// Takes the last change of an open transaction back, as if it had not come: the record before
-    /// its Update has this LSN. It takes no memory.
-    pub fn take_back(&mut self, txn: TxnNo, prev: Lsn)
-        ensures { IsSome (entry_in self.old txn)
-            → self.new ≡ with_changed self.old txn (entry_back prev) }
+    /// Makes room for a change of a slot by an open transaction: to note it needs no memory then.
+    /// An `Err` comes where memory for it is refused, or no page has the slot. The transactions
+    /// stay.
+    #[inline(always)]
+    pub fn make_room(&mut self, txn: TxnNo, page: PageNo, slot: SlotNo) -> Result<(), AllocError>
+        ensures room { OnOk result (IsSome (entry_in self.old.table txn)
+            → has_room_in self.new txn page slot ≡ true) }
+        ensures needed { OnErr result (has_room_in self.old txn page slot ≡ false) }
+        ensures same { self.new.table ≡ self.old.table }
     {
-        if let Some(row) = self.list.row_of(txn) {
-            let entry = &mut self.list.rows[row as usize];
-            entry.take_back(&mut self.claims, prev);
-        }
-    }
-
-    /// The last change of an open transaction had this number before it, where it is a Set. It
-    /// takes no memory.
-    pub fn set_before(&mut self, txn: TxnNo, before: u64)
-        ensures { IsSome (entry_in self.old txn)
-            → self.new ≡ with_changed self.old txn (entry_with_before before) }
-    {
-        if let Some(row) = self.list.row_of(txn) {
-            let entry = &mut self.list.rows[row as usize];
-            entry.set_before(before);
-        }
+        let Some(row) = self.list.row_of(txn) else {
+            return Ok(());
+        };
+        let entry = &mut self.list.rows[row as usize];
+        entry.make_room(&mut self.claims, page, slot)
     }
 
     /// A transaction begins.
     #[inline(always)]
     fn begin(&mut self, lsn: Lsn, txn: TxnNo) -> Result<bool, AllocError>
-        ensures ok { IfOk result (NotesIfMay self.old self.new (Begin lsn txn)) }
-        ensures err { OnErr result (self.new ≡ self.old) }
+        ensures ok { IfOk result (NotesIfMay self.old.table self.new.table (Begin lsn txn)) }
+        ensures err { OnErr result (self.new.table ≡ self.old.table) }
     {
         if txn.0 as u64 != self.begun as u64 + 1 || self.list.len() >= MAX_OPEN {
             return Ok(false);
@@ -381,9 +377,10 @@ impl OpenTransactions {
     /// A transaction makes a change.
     #[inline(always)]
     fn update(&mut self, txn: TxnNo, change: PendingChange) -> Result<bool, AllocError>
-        ensures ok { IfOk result (NotesIfMay self.old self.new
+        ensures ok { IfOk result (NotesIfMay self.old.table self.new.table
             (Update change.lsn txn change.prev change.page change.slot change.change)) }
-        ensures err { OnErr result (self.new ≡ self.old) }
+        ensures err { OnErr result (self.new.table ≡ self.old.table) }
+        ensures needed { OnErr result (has_room_in self.old txn change.page change.slot ≡ false) }
     {
         let Some(row) = self.list.row_of(txn) else {
             return Ok(false);
@@ -392,7 +389,8 @@ impl OpenTransactions {
         if !entry.is_active(change.prev) {
             return Ok(false);
         }
-        entry.update(&mut self.claims, change)
+        entry.make_room(&mut self.claims, change.page, change.slot)?;
+        Ok(entry.update(&mut self.claims, change))
     }
 
     /// A transaction takes its last pending change back.
@@ -407,8 +405,8 @@ impl OpenTransactions {
         slot: SlotNo,
         change: Change,
     ) -> bool
-        ensures { NotesIfMay self.old self.new (Comp lsn txn prev undo_next page slot change)
-            result }
+        ensures { NotesIfMay self.old.table self.new.table
+            (Comp lsn txn prev undo_next page slot change) result }
     {
         let Some(row) = self.list.row_of(txn) else {
             return false;
@@ -423,7 +421,7 @@ impl OpenTransactions {
 
     /// A transaction begins to roll back.
     fn abort(&mut self, lsn: Lsn, txn: TxnNo, prev: Lsn) -> bool
-        ensures { NotesIfMay self.old self.new (Abort lsn txn prev) result }
+        ensures { NotesIfMay self.old.table self.new.table (Abort lsn txn prev) result }
     {
         let Some(row) = self.list.row_of(txn) else {
             return false;
@@ -439,7 +437,8 @@ impl OpenTransactions {
     /// A transaction ends, and its changes are to last.
     #[inline(always)]
     fn commit(&mut self, txn: TxnNo, prev: Lsn) -> bool
-        ensures { (lsn : ℕ) → NotesIfMay self.old self.new (Commit lsn txn prev) result }
+        ensures { (lsn : ℕ) → NotesIfMay self.old.table self.new.table (Commit lsn txn prev)
+            result }
     {
         let Some(row) = self.list.row_of(txn) else {
             return false;
@@ -455,7 +454,7 @@ impl OpenTransactions {
 
     /// A transaction ends whose changes are all taken back.
     fn end(&mut self, txn: TxnNo, prev: Lsn) -> bool
-        ensures { (lsn : ℕ) → NotesIfMay self.old self.new (End lsn txn prev) result }
+        ensures { (lsn : ℕ) → NotesIfMay self.old.table self.new.table (End lsn txn prev) result }
     {
         let Some(row) = self.list.row_of(txn) else {
             return false;

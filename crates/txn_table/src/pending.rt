@@ -1,7 +1,6 @@
 //! A pending change in compact form: forty bytes, since a log may leave half a million of them.
 
 ghost use Rattle.std.specs.Prelude.{◌≡◌};
-ghost use Rattle.txn_table.specs.Ahead.{with_before};
 ghost use Rattle.txn_table.specs.Pending.{hold_by_kept};
 
 use log_rules::PendingChange;
@@ -151,18 +150,5 @@ impl Pending {
         ensures { result ≡ self.now.before }
     {
         self.before.hold()
-    }
-
-    /// The change had this number before it, where it is a Set.
-    pub fn set_before(&mut self, before: u64)
-        ensures change { self.new.change ≡ record self.old.change {
-          change = with_before self.old.change.change before;
-        } }
-        ensures before { self.new.before ≡ self.old.before }
-    {
-        match self.kind {
-            ChangeKind::Set => self.number = before,
-            ChangeKind::Add => {}
-        }
     }
 }

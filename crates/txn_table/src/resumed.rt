@@ -37,7 +37,7 @@ impl From<AllocError> for TablesFault {
 pub fn tables_of(alloc: Global, records: &[Record]) -> Result<(TxnTable, Returns), TablesFault>
     requires linked { IsLinked records.now }
     requires few { length records.now ≤ MAX_RECORDS }
-    ensures table { IfOk result (λ it. IsTableOf records.now it.0) }
+    ensures table { IfOk result (λ it. IsTableOf records.now it.0.table) }
     ensures returns { IfOk result (λ it. it.1.made ≡ returns_of records.now) }
     ensures room { OnOk result (HasRoomAtEach records.now) }
     ensures err { IfErr result (IsFaultOf records.now) }

@@ -94,7 +94,7 @@ impl Returns {
     /// How many changes are pending at a savepoint of an active transaction, which are the first
     /// ones of those now; None where the LSN is no savepoint.
     pub fn savepoint(&self, table: &TxnTable, txn: TxnNo, at: Lsn) -> Option<usize>
-        ensures { (log : Log) → IsLog log → IsTableOf log.records table.now
+        ensures { (log : Log) → IsLog log → IsTableOf log.records table.now.table
             → self.now.made ≡ returns_of log.records → is_open log.records txn ≡ true
             → is_rolling log.records txn ≡ false → result ≡ savepoint log.records txn at }
     {

@@ -1,11 +1,11 @@
 //! The table of open transactions.
 
 ghost use Rattle.std.specs.Prelude.{ℕ, ◌≡◌, ◌+◌, ◌<◌, ◌≤◌, ◌++◌, ◌∷◌, [], List, length, IfOk, OnOk};
-ghost use Rattle.std.specs.Prelude.{◌-◌, ◌↔◌, OnErr, IsSomeAnd, IsTrue, slice_get, true, min};
+ghost use Rattle.std.specs.Prelude.{◌-◌, ◌↔◌, OnErr, IsSomeAnd, IsTrue, slice_get, true, false};
+ghost use Rattle.std.specs.Prelude.{min};
 ghost use Rattle.std.specs.Prelude.{if◌then◌else◌, Some, None};
 ghost use Rattle.log_records.specs.declared.record.Record.{Record};
 ghost use Rattle.txn_table.specs.CountUpTo.{IsCountUpTo};
-ghost use Rattle.log_rules.specs.Growth.{MayGrow};
 ghost use Rattle.log_rules.specs.Linked.{MayFollow};
 ghost use Rattle.log_rules.specs.Transactions.{begun, holder, is_open, is_rolling, last_of};
 ghost use Rattle.log_rules.specs.Transactions.{open_in};
@@ -14,7 +14,8 @@ ghost use Rattle.log_rules.specs.Table.{entry_of, table_of};
 ghost use Rattle.txn_table.specs.TxnState.{state_of};
 ghost use Rattle.log_rules.specs.declared.pending_change.PendingChange.{PendingChange};
 ghost use Rattle.txn_table.specs.Returns.{return_of};
-ghost use Rattle.txn_table.specs.TxnTable.{IsAhead, IsTableOf, as_read, next_open, update_of};
+ghost use Rattle.txn_table.specs.OpenTransactions.{HasRoomFor, has_room_in};
+ghost use Rattle.txn_table.specs.TxnTable.{IsTableOf, next_open};
 ghost use Rattle.std.specs.Option.{option_map};
 
 use crate::open_transactions::OpenTransactions;
@@ -36,15 +37,15 @@ pub struct TxnTable {
 }
 
 impl Model for TxnTable {
-    ghost use Rattle.log_rules.specs.Table.{Table};
+    ghost use Rattle.txn_table.specs.OpenTransactions.{OpenView};
 
-    ghost Value = { Table };
+    ghost Value = { OpenView };
 
     ghost view = { λ table. table.open };
 
     ghost use Rattle.txn_table.specs.TxnTable.{IsOwed};
 
-    ghost invariant = { λ table. IsOwed table.open table.owed };
+    ghost invariant = { λ table. IsOwed table.open.table table.owed };
 }
 
 impl From<OpenTransactions> for TxnTable {
@@ -60,7 +61,7 @@ impl From<OpenTransactions> for TxnTable {
 impl TxnTable {
     /// The table of a log without records.
     pub fn new(alloc: Global) -> TxnTable
-        ensures { result ≡ table_of [] }
+        ensures { result.table ≡ table_of [] }
     {
         TxnTable {
             open: OpenTransactions::new(alloc),
@@ -70,8 +71,9 @@ impl TxnTable {
 
     /// The number of the next transaction.
     pub fn begin(&self) -> TxnNo
-        requires { (rs : List Record) × IsTableOf rs self.now }
-        ensures { (rs : List Record) → IsTableOf rs self.now → result ≡ length (begun rs) + 1 }
+        requires { (rs : List Record) × IsTableOf rs self.now.table }
+        ensures { (rs : List Record) → IsTableOf rs self.now.table
+            → result ≡ length (begun rs) + 1 }
     {
         TxnNo(self.open.begun() + 1)
     }
@@ -85,7 +87,7 @@ impl TxnTable {
         slot: SlotNo,
         kind: ChangeKind,
     ) -> Option<TxnNo>
-        ensures { (rs : List Record) → IsTableOf rs self.now
+        ensures { (rs : List Record) → IsTableOf rs self.now.table
             → result ≡ holder rs page slot kind txn }
     {
         self.open.holder(page, slot, kind, txn)
@@ -94,11 +96,11 @@ impl TxnTable {
     /// Notes the next record of the log. `Err` changes nothing; it comes only for a Begin and an
     /// Update, where room for it is refused.
     pub fn note(&mut self, next: &Record) -> Result<(), AllocError>
-        requires { (rs : List Record) × (IsTableOf rs self.old × MayFollow rs next.now) }
-        ensures ok { OnOk result ((rs : List Record) → IsTableOf rs self.old → MayFollow rs next.now
-            → self.new ≡ table_of (rs ++ next.now ∷ [])) }
-        ensures err { OnErr result (self.new ≡ self.old) }
-        ensures growth { OnErr result (MayGrow next.now) }
+        requires { (rs : List Record) × (IsTableOf rs self.old.table × MayFollow rs next.now) }
+        ensures ok { OnOk result ((rs : List Record) → IsTableOf rs self.old.table
+            → MayFollow rs next.now → self.new.table ≡ table_of (rs ++ next.now ∷ [])) }
+        ensures err { OnErr result (self.new.table ≡ self.old.table) }
+        ensures needed { OnErr result (¬ HasRoomFor self.old next.now) }
     {
         let owed = self.owed_after(next);
         self.open.note(next)?;
@@ -106,68 +108,42 @@ impl TxnTable {
         Ok(())
     }
 
-    /// Notes the Update of a change whose number before it is not known yet, where it is a Set. It
-    /// is to be followed by `set_before`, once the number is known, or by `take_back`. These take
-    /// no memory. An `Err` comes where memory is refused, and changes nothing.
-    pub fn note_ahead(&mut self, txn: TxnNo, ahead: PendingChange) -> Result<(), AllocError>
-        requires { (rs : List Record) × (number : ℕ) × (IsTableOf rs self.old
-            × MayFollow rs (update_of txn (as_read ahead number))) }
-        ensures ok { OnOk result ((rs : List Record) (number : ℕ) → IsTableOf rs self.old
-            → MayFollow rs (update_of txn (as_read ahead number))
-            → IsAhead rs txn ahead self.new) }
-        ensures err { OnErr result (self.new ≡ self.old) }
+    /// Makes room for a change of a slot by an open transaction: its Update is noted by
+    /// `note_in_room`. An `Err` comes where memory for it is refused, or no page has the slot. The
+    /// table stays.
+    #[inline(always)]
+    pub fn make_room(&mut self, txn: TxnNo, page: PageNo, slot: SlotNo) -> Result<(), AllocError>
+        ensures room { OnOk result ((rs : List Record) → IsTableOf rs self.old.table
+            → is_open rs txn ≡ true → has_room_in self.new txn page slot ≡ true) }
+        ensures needed { OnErr result (has_room_in self.old txn page slot ≡ false) }
+        ensures same { self.new.table ≡ self.old.table }
     {
-        let PendingChange {
-            lsn,
-            prev,
-            page,
-            slot,
-            change,
-        } = ahead;
-        self.open.note(&Record::Update {
-            lsn,
-            txn,
-            prev,
-            page,
-            slot,
-            change,
-        })?;
-        self.owed += 1;
-        Ok(())
+        self.open.make_room(txn, page, slot)
     }
 
-    /// The change that was noted ahead has this number before it, where it is a Set. The table is
-    /// that of the log with its Update.
-    pub fn set_before(&mut self, txn: TxnNo, before: u64)
-        requires { (rs : List Record) × (c : PendingChange) × IsAhead rs txn c self.old }
-        ensures { (rs : List Record) (c : PendingChange) → IsAhead rs txn c self.old
-            → MayFollow rs (update_of txn (as_read c before))
-            → self.new ≡ table_of (rs ++ update_of txn (as_read c before) ∷ []) }
+    /// Notes the next record of the log, for which there is room. It takes no memory.
+    pub fn note_in_room(&mut self, next: &Record)
+        requires follows { (rs : List Record) × (IsTableOf rs self.old.table
+            × MayFollow rs next.now) }
+        requires room { HasRoomFor self.old next.now }
+        ensures { (rs : List Record) → IsTableOf rs self.old.table → MayFollow rs next.now
+            → self.new.table ≡ table_of (rs ++ next.now ∷ []) }
     {
-        self.open.set_before(txn, before);
-    }
-
-    /// The change that was noted ahead does not come. The table is that of the log without it.
-    pub fn take_back(&mut self, txn: TxnNo, prev: Lsn)
-        requires { (rs : List Record) × (c : PendingChange)
-            × (IsAhead rs txn c self.old × (prev ≡ c.prev)) }
-        ensures { (rs : List Record) (c : PendingChange) → IsAhead rs txn c self.old
-            → prev ≡ c.prev → self.new ≡ table_of rs }
-    {
-        self.open.take_back(txn, prev);
-        self.owed -= 1;
+        if self.note(next).is_err() {
+            unreachable!();
+        }
     }
 
     /// How many transactions are open.
     pub fn open_txns(&self) -> usize
-        ensures { (rs : List Record) → IsTableOf rs self.now → result ≡ length (open_in rs) }
+        ensures { (rs : List Record) → IsTableOf rs self.now.table → result ≡ length (open_in rs) }
     {
         self.open.open_count()
     }
 
     /// What the table has of a transaction, if it is open.
     pub fn entry(&self, txn: TxnNo) -> Option<TxnState>
-        ensures { (rs : List Record) → IsTableOf rs self.now
+        ensures { (rs : List Record) → IsTableOf rs self.now.table
             → result ≡ (if is_open rs txn then Some (state_of (entry_of rs txn)) else None) }
     {
         self.open.state(txn)
@@ -176,7 +152,7 @@ impl TxnTable {
     /// What the table has of the open transaction with the least number at or past the cursor; None
     /// where there is none.
     pub fn next_from(&self, cursor: TxnNo) -> Option<TxnState>
-        ensures { (rs : List Record) → IsTableOf rs self.now
+        ensures { (rs : List Record) → IsTableOf rs self.now.table
             → result ≡ option_map (λ t. state_of (entry_of rs t)) (next_open rs cursor) }
     {
         self.open.next_from(cursor)
@@ -184,7 +160,7 @@ impl TxnTable {
 
     /// The last pending change of a transaction, if it is open and has one.
     pub fn last_pending(&self, txn: TxnNo) -> Option<PendingChange>
-        ensures { (rs : List Record) → IsTableOf rs self.now
+        ensures { (rs : List Record) → IsTableOf rs self.now.table
             → result ≡ (if is_open rs txn then last_of (pending rs txn) else None) }
     {
         self.open.last_pending(txn)
@@ -193,7 +169,7 @@ impl TxnTable {
     /// How many pending changes of an open transaction have an LSN up to this one, where their LSNs
     /// rise. The time is logarithmic in their number.
     pub(crate) fn pending_up_to(&self, txn: TxnNo, lsn: Lsn) -> usize
-        ensures { (rs : List Record) → IsTableOf rs self.now → is_open rs txn ≡ true
+        ensures { (rs : List Record) → IsTableOf rs self.now.table → is_open rs txn ≡ true
             → IsCountUpTo (pending rs txn) lsn result }
     {
         self.open.pending_up_to(txn, lsn)
@@ -201,7 +177,7 @@ impl TxnTable {
 
     /// Of the first so many pending changes of an open transaction the last one has this LSN.
     pub(crate) fn is_update(&self, txn: TxnNo, count: usize, lsn: Lsn) -> bool
-        ensures { (rs : List Record) → IsTableOf rs self.now → is_open rs txn ≡ true
+        ensures { (rs : List Record) → IsTableOf rs self.now.table → is_open rs txn ≡ true
             → IsTrue result ↔ ((0 < count)
             × IsSomeAnd (slice_get (pending rs txn) (count - 1)) (λ p. p.lsn ≡ lsn)) }
     {
@@ -216,8 +192,8 @@ impl TxnTable {
 
     /// What the next record of the log shows, if it is a Comp that goes back to a savepoint.
     pub fn return_of(&self, next: &Record) -> Option<Return>
-        requires { (rs : List Record) × (IsTableOf rs self.now × MayFollow rs next.now) }
-        ensures { (rs : List Record) → IsTableOf rs self.now → MayFollow rs next.now
+        requires { (rs : List Record) × (IsTableOf rs self.now.table × MayFollow rs next.now) }
+        ensures { (rs : List Record) → IsTableOf rs self.now.table → MayFollow rs next.now
             → result ≡ return_of rs next.now }
     {
         match *next {
@@ -237,7 +213,7 @@ impl TxnTable {
 
     /// What a Comp of an open transaction shows that takes its last pending change back.
     fn return_by(&self, lsn: Lsn, txn: TxnNo) -> Option<Return>
-        ensures { (rs : List Record) → IsTableOf rs self.now → is_open rs txn ≡ true
+        ensures { (rs : List Record) → IsTableOf rs self.now.table → is_open rs txn ≡ true
             → result ≡ (if is_rolling rs txn then None else Some (record {
               lsn = lsn;
               txn = txn;
@@ -252,15 +228,15 @@ impl TxnTable {
 
     /// How many records the open transactions may still need.
     pub fn owed(&self) -> u64
-        ensures { (rs : List Record) → IsTableOf rs self.now → result ≡ owed rs }
+        ensures { (rs : List Record) → IsTableOf rs self.now.table → result ≡ owed rs }
     {
         self.owed
     }
 
     /// How many records they may still need after the next record of the log.
     fn owed_after(&self, next: &Record) -> u64
-        requires { (rs : List Record) × (IsTableOf rs self.now × MayFollow rs next.now) }
-        ensures { (rs : List Record) → IsTableOf rs self.now → MayFollow rs next.now
+        requires { (rs : List Record) × (IsTableOf rs self.now.table × MayFollow rs next.now) }
+        ensures { (rs : List Record) → IsTableOf rs self.now.table → MayFollow rs next.now
             → result ≡ owed (rs ++ next.now ∷ []) }
     {
         match *next {
@@ -281,7 +257,7 @@ impl TxnTable {
     /// How many records an open transaction may still need: one for each pending change, its Abort,
     /// and its last.
     fn owed_by(&self, txn: TxnNo) -> u64
-        ensures { (rs : List Record) → IsTableOf rs self.now → is_open rs txn ≡ true
+        ensures { (rs : List Record) → IsTableOf rs self.now.table → is_open rs txn ≡ true
             → owed_by rs txn ≤ u64.MAX → result ≡ owed_by rs txn }
     {
         match self.open.state(txn) {

@@ -4,4 +4,4 @@ use Rattle.engine_restart.proofs.losers.losers_of.Given as goal
 
 -- the records so far are noted
 abbrev pub invariant-loop-next : goal.invariant-loop-next
-invariant-loop-next l = l.«open» ≡ table_of (take l.next-index l.records)
+invariant-loop-next l = l.«open».table ≡ table_of (take l.next-index l.records)

@@ -1,13 +1,10 @@
 use Rattle.std.proofs.Common.{◌≡◌, ◌+◌, ◌<◌, ◌∷◌, ◌++◌, [], List, get_or, length, suc, take, ap, ◌∙◌, sym, subst, refl, arith}
-use Rattle.std.specs.Prelude.{None}
 use Rattle.std.specs.Option.{option_map}
 use Rattle.std.proofs.Math.Seq.{take-suc}
 use Rattle.log_records.specs.declared.record.Record.{Record}
-use Rattle.log_records.specs.Log.{lsn_of, page_count_at, page_count_below}
 use Rattle.log_records.specs.PageCount.{count_after, count_behind}
-use Rattle.log_records.specs.Record.{own_lsn}
 use Rattle.log_records.proofs.Public.{count_behind-nil, count_behind-push}
-use Rattle.log_rules.specs.Checkpoint.{checkpoint_after, open_checkpoint}
+use Rattle.log_rules.specs.Checkpoint.{open_checkpoint}
 use Rattle.log_rules.specs.Linked.{MayFollow}
 use Rattle.fuzzy_ckpt.specs.LogCheckpoints.{IsLastPoint, gathered_of}
 use Rattle.fuzzy_ckpt.proofs.LastCkpts.{below_record, end_by_next, next_open}

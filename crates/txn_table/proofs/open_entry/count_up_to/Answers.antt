@@ -1,4 +1,4 @@
-use Rattle.std.proofs.Common.{◌≡◌, ◌∙◌, ◌+◌, ◌-◌, ◌/◌, ◌<◌, ◌≤◌, ap, sym, get_or, length, arith, rules}
+use Rattle.std.proofs.Common.{◌∙◌, ◌+◌, ◌-◌, ◌/◌, ◌<◌, ◌≤◌, ap, sym, length, arith, rules}
 use Rattle.log_rules.specs.declared.pending_change.PendingChange.{PendingChange}
 use Rattle.txn_table.specs.OpenEntry.{changes_of}
 use Rattle.txn_table.proofs.CountsUpTo.{above_middle, below_middle, change_at, same_count}

@@ -11,8 +11,8 @@ returns-clause-held c =
     let change = c.args.change in
     let before = c.in-Some.before in
     let taken : Taken c.args.claims.now c.take.new.self change.page change.slot c.args.row c.kind-kind.result before =
-    rw c.in-Some.is at c.in_ok-before.ensures.ok in
-    let items : c.push.new.self.items ≡ c.args.pending.now.items
+    rw c.in-Some.is at c.take.ensures in
+    let items : c.push_reserved.new.self.items ≡ c.args.pending.now.items
     ++ record { change = change; before = before } ∷ [] = grind (arith, common_steps) in
     subst (λ ps. IsHeld c.take.new.self c.args.row ps) (sym items)
     (held-push c.args.claims.now c.take.new.self c.args.row c.args.pending.now.items change before

@@ -1,4 +1,4 @@
-use Rattle.std.proofs.Common.{◌≡◌, ◌+◌, ◌≤◌, ◌∙◌, length, take, ap, sym, arith}
+use Rattle.std.proofs.Common.{◌+◌, ◌≤◌, ◌∙◌, take, ap, sym, arith}
 use Rattle.log_rules.specs.Transactions.{owed}
 use Rattle.txn_table.specs.Returns.{returns_of}
 use Rattle.txn_table.proofs.NextRecords.{next_follows, room_next, table_next, with_next}
@@ -12,7 +12,7 @@ returns-then-owed-index-clause-err c =
     let lt = c.loop-index-test.true in
     let at = c.index-records-index.is in
     let may = next_follows records i r c.requires.linked lt at in
-    let table = table_next records i r c.note.new.self c.requires.linked c.requires.few lt at
+    let table = table_next records i r c.note.new.self.table c.requires.linked c.requires.few lt at
     (c.in_ok-note.ensures.ok (take i records) c.loop-index.invariant.table may) in
     let owes = c.owed.ensures (take (i + 1) records) table in
     record {
@@ -31,7 +31,7 @@ loop-index-preserved c =
     let at = c.index-records-index.is in
     let rs = take i records in
     let may = next_follows records i r c.requires.linked lt at in
-    let table = table_next records i r c.note.new.self c.requires.linked c.requires.few lt at
+    let table = table_next records i r c.note.new.self.table c.requires.linked c.requires.few lt at
     (c.in_ok-note.ensures.ok rs on.table may) in
     let owes = c.owed.ensures (take (i + 1) records) table in
     let last : i + 1 + owed (take (i + 1) records) ≤ 1048576 = omega (arith, owes, c.if-owed-index.false, c.requires.few, lt) in

@@ -130,8 +130,8 @@ invariant_of-self-2 g c =
     (valid_with s r c.self.invariant.fit come) in
     let back = c.add.ensures.log s.log r (c.make_room-else-is_err.ensures.same ∙ c.self.invariant.returns_of_log)
     (c.return_of-back.ensures s.log table come.may_follow) in
-    subst (λ (t : EngineState). IsConsistent stored t c.note.new.self c.change.new.self after) (sym (state_after g c))
-    (kept_next stored s it.txns c.note.new.self it.pool c.change.new.self media c.add.new.self.made r c.self.invariant
+    subst (λ (t : EngineState). IsConsistent stored t c.note.new.self.table c.change.new.self after) (sym (state_after g c))
+    (kept_next stored s it.txns.table c.note.new.self.table it.pool c.change.new.self media c.add.new.self.made r c.self.invariant
     come (subst (λ (v : EngineView g.row.S.Denot g.row.D.Denot).
     IfSome (change_of r) (λ x. IsResident v.state.resident x.page)) (sym c.self.view_is) c.requires.there) noted
     changed back)

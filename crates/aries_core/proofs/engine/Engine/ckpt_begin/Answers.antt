@@ -19,7 +19,7 @@ invariant_of-self-2 g c =
     let none : refusal (engine_view stored it.log it.pool ckpts).state event.CkptBegin ≡ None =
     subst (λ (v : EngineView g.row.S.Denot g.row.D.Denot). refusal v.state event.CkptBegin ≡ None)
     (sym c.self.view_is) c.in_ok-find_no_ckpt.ensures.free in
-    (ckpt_begun stored it.log c.begin.new.log it.txns it.pool ckpts _ c.end-lsn.result c.self.invariant none
+    (ckpt_begun stored it.log c.begin.new.log it.txns.table it.pool ckpts _ c.end-lsn.result c.self.invariant none
     c.in-Ok.ensures.logged c.begin.ensures.forced_end
     (ap (λ (x : CkptView Phase). record ckpts { session = Some x }) c.in-Ok.ensures.begun) c.end-lsn.ensures).kept
 
@@ -34,6 +34,6 @@ returns-clause-step g c =
     let after = media_view it.master (Some (Pages c.in-Ok.ckpt)) it.vault.copies it.returns.made in
     subst (λ (v : EngineView g.row.S.Denot g.row.D.Denot). Step v.state event.CkptBegin
     (Ok (answer.Logged c.end-lsn.result)) (engine_view stored c.begin.new.log it.pool after).state) c.self.view_is
-    (ckpt_begun stored it.log c.begin.new.log it.txns it.pool ckpts after c.end-lsn.result c.self.invariant none
+    (ckpt_begun stored it.log c.begin.new.log it.txns.table it.pool ckpts after c.end-lsn.result c.self.invariant none
     c.in-Ok.ensures.logged c.begin.ensures.forced_end
     (ap (λ (x : CkptView Phase). record ckpts { session = Some x }) c.in-Ok.ensures.begun) c.end-lsn.ensures).step

@@ -24,7 +24,7 @@ invariant_of-self-in-Err-LogFault g c =
     let none : refusal (engine_view stored it.log it.pool ckpts).state event.CkptEnd ≡ None =
     subst (λ (v : EngineView g.row.S.Denot g.row.D.Denot). refusal v.state event.CkptEnd ≡ None)
     (sym c.self.view_is) c.in_ok-find_gathered.ensures.gathered in
-    (ckpt_unforced stored it.log c.finish.new.log it.txns it.pool ckpts
+    (ckpt_unforced stored it.log c.finish.new.log it.txns.table it.pool ckpts
     (media_view it.master c.take.new.self it.vault.copies it.returns.made)
     (gathered_ckpt c.in-Some-into_gathered.ckpt) c.self.invariant none
     (ap (option_map view_of) (sym c.take.ensures.value ∙ c.in-Some.is) ∙ ap Some (sym c.in-Some-into_gathered.ensures))
@@ -39,7 +39,7 @@ invariant_of-self-2 g c =
     let none : refusal (engine_view stored it.log it.pool ckpts).state event.CkptEnd ≡ None =
     subst (λ (v : EngineView g.row.S.Denot g.row.D.Denot). refusal v.state event.CkptEnd ≡ None)
     (sym c.self.view_is) c.in_ok-find_gathered.ensures.gathered in
-    (ckpt_ended stored it.log c.finish.new.log it.txns it.pool ckpts
+    (ckpt_ended stored it.log c.finish.new.log it.txns.table it.pool ckpts
     (media_view (Some c.in-Ok.point) c.take.new.self it.vault.copies it.returns.made)
     (gathered_ckpt c.in-Some-into_gathered.ckpt) c.in-Ok.point c.self.invariant none
     (ap (option_map view_of) (sym c.take.ensures.value ∙ c.in-Some.is) ∙ ap Some (sym c.in-Some-into_gathered.ensures))
@@ -58,7 +58,7 @@ returns-in-Err-LogFault-clause-step g c =
     (sym c.self.view_is) c.in_ok-find_gathered.ensures.gathered in
     subst (λ (v : EngineView g.row.S.Denot g.row.D.Denot). Step v.state event.CkptEnd (Err LogFault)
     (engine_view stored c.finish.new.log it.pool after).state) c.self.view_is
-    (ckpt_unforced stored it.log c.finish.new.log it.txns it.pool ckpts after
+    (ckpt_unforced stored it.log c.finish.new.log it.txns.table it.pool ckpts after
     (gathered_ckpt c.in-Some-into_gathered.ckpt) c.self.invariant none
     (ap (option_map view_of) (sym c.take.ensures.value ∙ c.in-Some.is) ∙ ap Some (sym c.in-Some-into_gathered.ensures))
     (subst (FailsAs it.log c.finish.new.log c.in-Some-into_gathered.ckpt) c.in-Err-LogFault.field-0-is
@@ -77,7 +77,7 @@ returns-clause-step g c =
     subst (λ (v : EngineView g.row.S.Denot g.row.D.Denot). Step v.state event.CkptEnd
     (Ok (answer.Point point.begin point.end point.redo)) (engine_view stored c.finish.new.log it.pool after).state)
     c.self.view_is
-    (ckpt_ended stored it.log c.finish.new.log it.txns it.pool ckpts after
+    (ckpt_ended stored it.log c.finish.new.log it.txns.table it.pool ckpts after
     (gathered_ckpt c.in-Some-into_gathered.ckpt) point c.self.invariant none
     (ap (option_map view_of) (sym c.take.ensures.value ∙ c.in-Some.is) ∙ ap Some (sym c.in-Some-into_gathered.ensures))
     c.in-Ok.ensures.logged c.in-Ok.ensures.forced
@@ -110,6 +110,6 @@ finish-requires-clause-covered g c =
       c.self.invariant.pool_of_log.pages,
       length-take (length it.pool.states) (stored it.pool.store),
     ))
-    (session_covered stored (engine_view stored it.log it.pool ckpts).state it.txns it.pool ckpts v c.self.invariant
+    (session_covered stored (engine_view stored it.log it.pool ckpts).state it.txns.table it.pool ckpts v c.self.invariant
     (ap (option_map view_of) (sym c.take.ensures.value ∙ c.in-Some.is)
     ∙ ap Some (sym c.in-Some-into_gathered.ensures))).1

@@ -27,7 +27,7 @@ gather-requires-clause-covered g c =
       c.self.invariant.pool_of_log.pages,
       length-take (length it.pool.states) (stored it.pool.store),
     ))
-    (session_covered stored (engine_view stored it.log it.pool ckpts).state it.txns it.pool ckpts
+    (session_covered stored (engine_view stored it.log it.pool ckpts).state it.txns.table it.pool ckpts
     (view_of c.in-Some.session) c.self.invariant (ap (option_map view_of) (sym c.take.ensures.value ∙ c.in-Some.is))).1
 
 pub invariant_of-self : goal.invariant_of-self
@@ -38,7 +38,7 @@ invariant_of-self g c =
     let none : refusal (engine_view stored it.log it.pool ckpts).state event.CkptGather ≡ None =
     subst (λ (v : EngineView g.row.S.Denot g.row.D.Denot). refusal v.state event.CkptGather ≡ None)
     (sym c.self.view_is) c.in_ok-find_gather.ensures.open in
-    (ckpt_gathered stored it.log c.gather.new.log it.txns it.pool ckpts _ (view_of c.in-Some.session)
+    (ckpt_gathered stored it.log c.gather.new.log it.txns.table it.pool ckpts _ (view_of c.in-Some.session)
     (view_of c.in-Ok.session)
     (if is_done (left_of (view_of c.in-Ok.session).phase) then answer.Done else answer.More) c.self.invariant none
     (ap (option_map view_of) (sym c.take.ensures.value
@@ -64,7 +64,7 @@ returns-after-done-clause-step g c =
     ] in
     subst (λ (v : EngineView g.row.S.Denot g.row.D.Denot). Step v.state event.CkptGather
     (Ok (gather_answer c.if-done.result)) (engine_view stored c.gather.new.log it.pool after).state) c.self.view_is
-    (ckpt_gathered stored it.log c.gather.new.log it.txns it.pool ckpts after (view_of c.in-Some.session)
+    (ckpt_gathered stored it.log c.gather.new.log it.txns.table it.pool ckpts after (view_of c.in-Some.session)
     (view_of c.in-Ok.session) (gather_answer c.if-done.result) c.self.invariant none
     (ap (option_map view_of) (sym c.take.ensures.value ∙ c.in-Some.is)) c.in-Ok.ensures.logged
     c.gather.ensures.forced_end refl c.in-Ok.ensures.gathered said).step
@@ -83,6 +83,6 @@ returns-in-Err-clause-step g c =
     ap (λ o. record ckpts { session = o }) (ap Some c.in-Err.ensures.refused ∙ sym has) in
     subst (λ (v : EngineView g.row.S.Denot g.row.D.Denot). Step v.state event.CkptGather (Err OutOfMemory)
     (engine_view stored c.gather.new.log it.pool after).state) c.self.view_is
-    (ckpt_same stored it.log c.gather.new.log it.txns it.pool ckpts after event.CkptGather OutOfMemory c.self.invariant
-    none (gather_takes stored it.log it.txns it.pool ckpts (view_of c.in-Some.session) c.self.invariant none has
+    (ckpt_same stored it.log c.gather.new.log it.txns.table it.pool ckpts after event.CkptGather OutOfMemory c.self.invariant
+    none (gather_takes stored it.log it.txns.table it.pool ckpts (view_of c.in-Some.session) c.self.invariant none has
     c.in-Err.ensures.appends) refl c.in-Err.ensures.same c.gather.ensures.forced_end alike).step

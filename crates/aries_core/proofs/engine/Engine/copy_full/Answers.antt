@@ -27,7 +27,7 @@ full_made g c =
 pub invariant_of-self-2 : goal.invariant_of-self-2
 invariant_of-self-2 g c =
     let it = c.self.inside in
-    copies_kept g.S.PageStore.stored it.log it.txns it.pool it.pool
+    copies_kept g.S.PageStore.stored it.log it.txns.table it.pool it.pool
     (media_view it.master it.session it.vault.copies it.returns.made)
     c.open_full.new.self.copies event.CopyFull (Ok (answer.Copied c.in_ok-open_full.field-0)) c.self.invariant tt
     c.self.invariant.pool_of_log (full_made g c)

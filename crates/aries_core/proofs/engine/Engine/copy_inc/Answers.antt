@@ -33,7 +33,7 @@ inc_made g c =
 pub invariant_of-self-2 : goal.invariant_of-self-2
 invariant_of-self-2 g c =
     let it = c.self.inside in
-    copies_kept g.S.PageStore.stored it.log it.txns it.pool it.pool
+    copies_kept g.S.PageStore.stored it.log it.txns.table it.pool it.pool
     (media_view it.master it.session it.vault.copies it.returns.made)
     c.open_inc.new.self.copies (event.CopyInc c.args.parent)
     (Ok (answer.Copied c.in_ok-open_inc.field-0)) c.self.invariant tt

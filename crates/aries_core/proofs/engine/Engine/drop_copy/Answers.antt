@@ -13,6 +13,6 @@ invariant_of-self-2 g c =
     let media = media_view it.master it.session it.vault.copies it.returns.made in
     let s = (engine_view stored it.log it.pool media).state in
     let ok = c.in_ok-drop_open.ensures in
-    copies_kept stored it.log it.txns it.pool it.pool media c.drop_open.new.self.copies (event.DropCopy c.args.copy)
+    copies_kept stored it.log it.txns.table it.pool it.pool media c.drop_open.new.self.copies (event.DropCopy c.args.copy)
     (Ok answer.Dropped) c.self.invariant tt c.self.invariant.pool_of_log
     (drop_step s c.drop_open.new.self.copies c.args.copy ok.ok ok.dropped)

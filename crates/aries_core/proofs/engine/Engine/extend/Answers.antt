@@ -41,7 +41,7 @@ invariant_of-self-then-is_err-2 g c =
     let state = unextended_is stored it.log c.make_room.new.self it.pool c.grow.new.self media
     c.make_room.ensures.same c.make_room.ensures.forced_end enough c.grow.ensures.stored
     (failing c.grow.result _ err c.grow.ensures.stays) in
-    subst (λ (t : EngineState). IsConsistent stored t it.txns c.grow.new.self media) (sym state) (record {
+    subst (λ (t : EngineState). IsConsistent stored t it.txns.table c.grow.new.self media) (sym state) (record {
       fit = kept.fit;
       table_of_log = kept.table_of_log;
       pool_of_log = failing c.grow.result _ err c.grow.ensures.kept it.log.log kept.pool_of_log;
@@ -103,8 +103,8 @@ invariant_of-self-2 g c =
     let ok = sym c.is_err-2.ensures.value ∙ c.if-is_err-2.false in
     let valid = (extended_fit s c.args.count kept.fit (is_free g c)).valid in
     let of_log = said c.grow.result _ ok c.grow.ensures.next (log_of s) (end s) kept.pool_of_log valid in
-    subst (λ (t : EngineState). IsConsistent stored t it.txns c.grow.new.self media) (sym (state_after g c))
-    (kept_extended stored s it.txns it.pool c.grow.new.self media c.args.count kept (is_free g c) of_log)
+    subst (λ (t : EngineState). IsConsistent stored t it.txns.table c.grow.new.self media) (sym (state_after g c))
+    (kept_extended stored s it.txns.table it.pool c.grow.new.self media c.args.count kept (is_free g c) of_log)
 
 pub returns-clause-step : goal.returns-clause-step
 returns-clause-step g c =

@@ -5,7 +5,7 @@ use Rattle.aries_core.proofs.engine.Engine.force_log.Goals as goal
 pub invariant_of-self : goal.invariant_of-self
 invariant_of-self g c =
     let it = c.self.inside in
-    force_kept g.S.PageStore.stored it.log c.force.new.self it.txns it.pool
+    force_kept g.S.PageStore.stored it.log c.force.new.self it.txns.table it.pool
     (media_view it.master it.session it.vault.copies it.returns.made)
     c.self.invariant c.force.ensures.same c.force.ensures.rising c.force.ensures.at_record
 

@@ -23,7 +23,7 @@ invariant_of-result g c =
     record {
       fit = subst IsFit (sym state) (new_is_fit n c.args.setup.frames c.requires.pages);
       table_of_log =
-          subst (λ (rs : List Record). IsTableOf rs c.new-in-Ok-new.result)
+          subst (λ (rs : List Record). IsTableOf rs c.new-in-Ok-new.result.table)
           (sym (ap (λ (l : Log). l.records) c.in-Ok-new.ensures.empty))
           (record { linked = linked_none; few = omega arith; made = c.new-in-Ok-new.ensures });
       pool_of_log =

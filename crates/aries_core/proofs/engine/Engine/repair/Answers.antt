@@ -36,7 +36,7 @@ rolled_is : {E : Type 0} (rs : List Record) (p : ℕ) (page q : Page) (r : Resul
 rolled_is rs p page q r ok past rolled = said r _ ok rolled ∙ ap (image rs) (numbered rs p page past)
 
 call : (g : given.Over) (c : goal.Joined-repair g)
-    → Called g.S.PageStore.stored c.self.inside.log c.force_to.new.self c.self.inside.txns c.self.inside.pool
+    → Called g.S.PageStore.stored c.self.inside.log c.force_to.new.self c.self.inside.txns.table c.self.inside.pool
     c.repair.new.self
     (media_view c.self.inside.master c.self.inside.session c.self.inside.vault.copies c.self.inside.returns.made)
     (event.Repair c.args.copy c.args.page) (reply_of (λ lsn. answer.Repaired lsn) c.match-repair.result)
@@ -67,15 +67,15 @@ call g c =
     let of_log = c.repair.ensures.kept (log_of s) c.self.invariant.pool_of_log now in
     elim c.match-repair.branch [
       | in-Ok w ↦
-          subst (λ (r : Result Lsn Refusal). Called stored it.log c.force_to.new.self it.txns it.pool c.repair.new.self
+          subst (λ (r : Result Lsn Refusal). Called stored it.log c.force_to.new.self it.txns.table it.pool c.repair.new.self
           media (event.Repair copy p) (reply_of (λ lsn. answer.Repaired lsn) r)) (sym w.result-is)
-          (done stored it.log c.force_to.new.self it.txns it.pool c.repair.new.self media copy p q
+          (done stored it.log c.force_to.new.self it.txns.table it.pool c.repair.new.self media copy p q
           c.self.invariant none within now same forced
           w.in-Ok.ensures.stored w.in-Ok.ensures.clean of_log)
       | in-Err w ↦
-          subst (λ (r : Result Lsn Refusal). Called stored it.log c.force_to.new.self it.txns it.pool c.repair.new.self
+          subst (λ (r : Result Lsn Refusal). Called stored it.log c.force_to.new.self it.txns.table it.pool c.repair.new.self
           media (event.Repair copy p) (reply_of (λ lsn. answer.Repaired lsn) r)) (sym w.result-is)
-          (half_done stored it.log c.force_to.new.self it.txns it.pool c.repair.new.self media copy p q
+          (half_done stored it.log c.force_to.new.self it.txns.table it.pool c.repair.new.self media copy p q
           c.self.invariant none within now same forced
           w.in-Err.ensures.either w.in-Err.ensures.stays of_log)
     ]
@@ -129,7 +129,7 @@ pub invariant_of-self-then-is_err-2 : goal.invariant_of-self-then-is_err-2
 invariant_of-self-then-is_err-2 g c =
     let it = c.self.inside in
     let rolled : c.roll_forward.new.self ≡ it.log = c.roll_forward.ensures.same in
-    force_kept g.S.PageStore.stored it.log c.force_to.new.self it.txns it.pool
+    force_kept g.S.PageStore.stored it.log c.force_to.new.self it.txns.table it.pool
     (media_view it.master it.session it.vault.copies it.returns.made)
     c.self.invariant (c.force_to.ensures.same ∙ ap (λ (w : WrittenLog g.row.D.Denot). w.log) rolled)
     (subst (λ (w : WrittenLog g.row.D.Denot). w.forced_end ≤ c.force_to.new.self.forced_end) rolled c.force_to.ensures.rising)

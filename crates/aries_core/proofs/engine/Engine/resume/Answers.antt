@@ -34,8 +34,8 @@ invariant_of-result g c =
       fit = subst IsFit (sym state) (resumed_fit log c.args.frames c.checkpoints_of-last.result.last
           c.args.legacy.vault.copies valid c.requires.may
           (subst HasRoomForUndo records c.in_ok-txns.ensures.room) c.checkpoints_of-last.ensures.last);
-      table_of_log = subst (λ (l : Log). IsTableOf l.records c.in_ok-txns.txns) (sym log_is)
-          (subst (λ (rs : List Record). IsTableOf rs c.in_ok-txns.txns) records c.in_ok-txns.ensures.table);
+      table_of_log = subst (λ (l : Log). IsTableOf l.records c.in_ok-txns.txns.table) (sym log_is)
+          (subst (λ (rs : List Record). IsTableOf rs c.in_ok-txns.txns.table) records c.in_ok-txns.ensures.table);
       pool_of_log = subst (λ (l : Log). IsPoolOf stored l c.in-Ok.pool) (sym log_is)
           (c.in-Ok.ensures.of_log log valid c.requires.pages);
       session_of_log = c.session_of.ensures ∙ c.checkpoints_of-last.ensures.«open»

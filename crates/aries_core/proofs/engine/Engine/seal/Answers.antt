@@ -13,6 +13,6 @@ invariant_of-self-2 g c =
     let media = media_view it.master it.session it.vault.copies it.returns.made in
     let s = (engine_view stored it.log it.pool media).state in
     let ok = c.in_ok-seal.ensures in
-    copies_kept stored it.log it.txns it.pool it.pool media c.seal.new.self.copies (event.Seal c.args.copy)
+    copies_kept stored it.log it.txns.table it.pool it.pool media c.seal.new.self.copies (event.Seal c.args.copy)
     (Ok (answer.Sealed c.in_ok-seal.field-0)) c.self.invariant tt c.self.invariant.pool_of_log
     (seal_step s c.seal.new.self.copies c.args.copy c.in_ok-seal.field-0 ok.ok ok.count ok.sealed)

@@ -80,7 +80,7 @@ pub invariant_of-self-2 : goal.invariant_of-self-2
 invariant_of-self-2 g c =
     let it = c.self.inside in
     let stored = g.S.PageStore.stored in
-    copies_kept stored it.log it.txns it.pool c.stored.new.self
+    copies_kept stored it.log it.txns.table it.pool c.stored.new.self
     (media_view it.master it.session it.vault.copies it.returns.made)
     c.decide.new.self.copies (event.Take c.args.copy c.args.page)
     (reply_of took_answer c.match-decide.result) c.self.invariant tt

@@ -49,7 +49,7 @@ image_of-requires g c =
     c.self.invariant.fit.held p passes.within passes.dirty
 
 call : (g : given.Over) (c : goal.After-write_begin g)
-    → Called g.S.PageStore.stored c.self.inside.log c.force_to.new.self c.self.inside.txns c.self.inside.pool
+    → Called g.S.PageStore.stored c.self.inside.log c.force_to.new.self c.self.inside.txns.table c.self.inside.pool
     c.write_begin.new.self
     (media_view c.self.inside.master c.self.inside.session c.self.inside.vault.copies c.self.inside.returns.made)
     (event.WriteBegin c.args.page)
@@ -69,7 +69,7 @@ call g c =
     let within : p < length it.pool.states = omega arith in
     let forced = said c.force_to.result _ (sym c.is_err.ensures.value ∙ c.if-is_err.false) c.force_to.ensures.forced in
     let number = c.in-Ok.ensures.numbered in
-    begun stored it.log c.force_to.new.self it.txns it.pool c.write_begin.new.self
+    begun stored it.log c.force_to.new.self it.txns.table it.pool c.write_begin.new.self
     (media_view it.master it.session it.vault.copies it.returns.made) p c.write_begin.result q
     c.self.invariant none within (c.in-Ok.ensures.image (log_of s) c.self.invariant.pool_of_log)
     c.write_begin.ensures.lsn c.force_to.ensures.same
@@ -81,7 +81,7 @@ call g c =
 pub invariant_of-self : goal.invariant_of-self
 invariant_of-self g c =
     let it = c.self.inside in
-    force_kept g.S.PageStore.stored it.log c.force_to.new.self it.txns it.pool
+    force_kept g.S.PageStore.stored it.log c.force_to.new.self it.txns.table it.pool
     (media_view it.master it.session it.vault.copies it.returns.made)
     c.self.invariant c.force_to.ensures.same c.force_to.ensures.rising c.force_to.ensures.at_record
 

@@ -18,7 +18,7 @@ use Rattle.aries_core.proofs.engine.Engine.write_end.Given as given
 use Rattle.aries_core.proofs.engine.Engine.write_end.Goals as goal
 
 call : (g : given.Over) (c : goal.Joined-write_end g)
-    → Called g.S.PageStore.stored c.self.inside.log c.self.inside.log c.self.inside.txns c.self.inside.pool
+    → Called g.S.PageStore.stored c.self.inside.log c.self.inside.log c.self.inside.txns.table c.self.inside.pool
     c.write_end.new.self
     (media_view c.self.inside.master c.self.inside.session c.self.inside.vault.copies c.self.inside.returns.made)
     (event.WriteEnd c.args.page) (reply_of (λ lsn. answer.Written lsn) c.match-write_end.result)
@@ -37,18 +37,18 @@ call g c =
     let of_log = c.write_end.ensures.kept (log_of s) c.self.invariant.pool_of_log in
     elim c.match-write_end.branch [
       | in-Ok w ↦
-          subst (λ (r : Result Lsn Refusal). Called stored it.log it.log it.txns it.pool c.write_end.new.self
+          subst (λ (r : Result Lsn Refusal). Called stored it.log it.log it.txns.table it.pool c.write_end.new.self
           (media_view it.master it.session it.vault.copies it.returns.made)
           (event.WriteEnd p) (reply_of (λ lsn. answer.Written lsn) r)) (sym w.result-is)
-          (ended stored it.log it.txns it.pool c.write_end.new.self
+          (ended stored it.log it.txns.table it.pool c.write_end.new.self
           (media_view it.master it.session it.vault.copies it.returns.made) p
           w.in-Ok.lsn c.self.invariant none within
           w.in-Ok.ensures.lsn w.in-Ok.ensures.stored w.in-Ok.ensures.ended of_log)
       | in-Err w ↦
-          subst (λ (r : Result Lsn Refusal). Called stored it.log it.log it.txns it.pool c.write_end.new.self
+          subst (λ (r : Result Lsn Refusal). Called stored it.log it.log it.txns.table it.pool c.write_end.new.self
           (media_view it.master it.session it.vault.copies it.returns.made)
           (event.WriteEnd p) (reply_of (λ lsn. answer.Written lsn) r)) (sym w.result-is)
-          (repeated stored it.log it.txns it.pool c.write_end.new.self
+          (repeated stored it.log it.txns.table it.pool c.write_end.new.self
           (media_view it.master it.session it.vault.copies it.returns.made)
           p c.self.invariant none within
           w.in-Err.ensures.either w.in-Err.ensures.goes_on of_log)

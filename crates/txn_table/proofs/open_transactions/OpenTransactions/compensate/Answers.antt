@@ -9,27 +9,28 @@ use Rattle.log_records.specs.declared.record.Record.TheVariants.{Comp}
 use Rattle.txn_table.proofs.Stored.{at-row, nobody-here, said-here, says-here, in_rows-put, tracks-row, view-changed}
 use Rattle.txn_table.proofs.Stored.{view-stays}
 use Rattle.txn_table.proofs.Tracked.{held-at}
+use Rattle.txn_table.proofs.Viewed.{table_is}
 use Rattle.txn_table.proofs.open_transactions.OpenTransactions.compensate.Goals as goal
 
 pub returns-in_default : goal.returns-in_default
 returns-in_default c = (
-  nobody-here c.self.inside.begun c.args.txn (entries_in c.self.inside.list) c.args.self.now
+  nobody-here c.self.inside.begun c.args.txn (entries_in c.self.inside.list) c.args.self.now.table
       (λ e. IsChained c.args.prev e
       × IsSomeAnd (last_of e.pending) (Compensates c.args.undo_next c.args.page c.args.slot c.args.change))
-      c.self.view_is (c.row_of.ensures.none c.in_default.is),
+      (table_is c.self.view_is) (c.row_of.ensures.none c.in_default.is),
   refl,
 )
 
 pub returns-then-not-may_compensate : goal.returns-then-not-may_compensate
 returns-then-not-may_compensate c = (
   λ some. false≢true (sym c.if-not-may_compensate.true ∙ c.may_compensate.ensures.1
-      (said-here c.self.invariant c.in-Some.ensures.found c.index_mut-entry.ensures.value c.args.self.now c.self.view_is
+      (said-here c.self.invariant c.in-Some.ensures.found c.index_mut-entry.ensures.value c.args.self.now.table (table_is c.self.view_is)
       (λ e. IsChained c.args.prev e
       × IsSomeAnd (last_of e.pending) (Compensates c.args.undo_next c.args.page c.args.slot c.args.change)) some)),
   ap (λ es. let v : Table = record { begun = c.self.inside.begun; entries = es } in v)
       (view-stays c.self.invariant c.in-Some.ensures.found c.index_mut-entry.ensures.value c.index_mut-entry.result.now
       refl)
-      ∙ c.self.view_is,
+      ∙ (table_is c.self.view_is),
 )
 
 pub compensate-requires-clause-held : goal.compensate-requires-clause-held
@@ -48,7 +49,7 @@ invariant_of-self-2 c =
 
 pub returns : goal.returns
 returns c = (
-  says-here c.self.invariant c.in-Some.ensures.found c.index_mut-entry.ensures.value c.args.self.now c.self.view_is
+  says-here c.self.invariant c.in-Some.ensures.found c.index_mut-entry.ensures.value c.args.self.now.table (table_is c.self.view_is)
       (λ e. IsChained c.args.prev e
       × IsSomeAnd (last_of e.pending) (Compensates c.args.undo_next c.args.page c.args.slot c.args.change))
       (c.may_compensate.ensures.0 c.if-not-may_compensate.false),
@@ -58,5 +59,5 @@ returns c = (
       (Comp c.args.lsn c.args.txn c.args.prev c.args.undo_next c.args.page c.args.slot c.args.change))
       c.compensate.ensures.entry))
       ∙ ap (λ (v : Table). with_entry v c.args.txn
-      (Comp c.args.lsn c.args.txn c.args.prev c.args.undo_next c.args.page c.args.slot c.args.change)) c.self.view_is,
+      (Comp c.args.lsn c.args.txn c.args.prev c.args.undo_next c.args.page c.args.slot c.args.change)) (table_is c.self.view_is),
 )

@@ -8,6 +8,7 @@ use Rattle.txn_table.specs.OpenList.{entries_in}
 use Rattle.slot_claims.specs.RowSet.{has_row}
 use Rattle.log_rules.specs.Table.{Table, holder_in}
 use Rattle.txn_table.proofs.Tracked.{least-holder}
+use Rattle.txn_table.proofs.Viewed.{table_is}
 use Rattle.txn_table.proofs.open_transactions.OpenTransactions.holder.Goals as goal
 
 pub returns : goal.returns
@@ -17,4 +18,4 @@ returns c =
     c.first_other.ensures
     ∙ ap first (c.against-rows.ensures ∙ ap (λ k. rows_against k c.args.kind) c.claim.ensures)
     ∙ sym (least-holder c.args.page c.args.slot c.args.kind c.args.txn c.self.invariant.tracks)
-    ∙ ap (λ (v : Table). holder_in v c.args.page c.args.slot c.args.kind c.args.txn) c.self.view_is
+    ∙ ap (λ (v : Table). holder_in v c.args.page c.args.slot c.args.kind c.args.txn) (table_is c.self.view_is)

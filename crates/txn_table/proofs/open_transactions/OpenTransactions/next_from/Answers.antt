@@ -9,6 +9,7 @@ use Rattle.log_rules.specs.Table.{Table, entry_in}
 use Rattle.txn_table.specs.TxnState.{next_in, state_of}
 use Rattle.txn_table.proofs.Stored.{found-at}
 use Rattle.txn_table.proofs.Tracked.{entry-there, least-next}
+use Rattle.txn_table.proofs.Viewed.{table_is}
 use Rattle.txn_table.proofs.open_transactions.OpenTransactions.next_from.Goals as goal
 
 -- what is known of the next one says the state
@@ -30,7 +31,7 @@ returns-in-Some c =
     ∙ told table c.args.from x
     (least-next c.args.from c.self.invariant.tracks ∙ ap (option_map (λ (e : OpenEntry). e.txn)) first)
     (entry-there at.0 x c.self.invariant.tracks at.1.0 at.1.1)
-    ∙ ap (λ (v : Table). option_map state_of (option_and_then (entry_in v) (next_in v c.args.from))) c.self.view_is
+    ∙ ap (λ (v : Table). option_map state_of (option_and_then (entry_in v) (next_in v c.args.from))) (table_is c.self.view_is)
 
 pub returns-in-None : goal.returns-in-None
 returns-in-None c =
@@ -39,4 +40,4 @@ returns-in-None c =
     let table : Table = record { begun = c.self.inside.begun; entries = map entry_view xs } in
     ap (λ o. option_map state_of (option_and_then (entry_in table) o))
     (sym (least-next c.args.from c.self.invariant.tracks ∙ ap (option_map (λ (e : OpenEntry). e.txn)) none))
-    ∙ ap (λ (v : Table). option_map state_of (option_and_then (entry_in v) (next_in v c.args.from))) c.self.view_is
+    ∙ ap (λ (v : Table). option_map state_of (option_and_then (entry_in v) (next_in v c.args.from))) (table_is c.self.view_is)

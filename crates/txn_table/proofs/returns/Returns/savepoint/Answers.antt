@@ -54,7 +54,7 @@ returns c = λ log valid of made still active.
     (c.pending_up_to-count.ensures log.records of still)
     (none log.records of still made rising state))
   where
-    none : (rs : List Record) → IsTableOf rs c.args.table.now → is_open rs c.args.txn ≡ true
+    none : (rs : List Record) → IsTableOf rs c.args.table.now.table → is_open rs c.args.txn ≡ true
         → c.args.self.now.made ≡ returns_of rs → AreRising c.args.self.now.made
         → c.in-Some.state ≡ state_of (entry_of rs c.args.txn)
         → IsFound rs c.args.txn c.pending_up_to-count.result c.args.at → ⊥

@@ -1,5 +1,6 @@
 use Rattle.txn_table.proofs.Owed.{count_is}
+use Rattle.txn_table.proofs.Viewed.{table_is}
 use Rattle.txn_table.proofs.table.TxnTable.owed.Goals as goal
 
 pub returns : goal.returns
-returns c rs of = count_is c.self.inside.open c.args.self.now c.self.inside.owed rs c.self.view_is c.self.invariant of
+returns c rs of = count_is c.self.inside.open.table c.args.self.now.table c.self.inside.owed rs (table_is c.self.view_is) c.self.invariant of

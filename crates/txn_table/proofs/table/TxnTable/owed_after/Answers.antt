@@ -1,13 +1,14 @@
 -- What is owed after the next record.
 use Rattle.std.proofs.Common.{arith}
 use Rattle.txn_table.proofs.Owed.{table_step}
+use Rattle.txn_table.proofs.Viewed.{table_is}
 use Rattle.txn_table.proofs.table.TxnTable.owed_after.Goals as goal
 
 pub overflow_add-result : goal.overflow_add-result
 overflow_add-result c =
     let s =
-    table_step c.self.inside.open c.args.self.now c.self.inside.owed c.requires.0 c.args.next.now _
-    c.self.view_is c.self.invariant c.requires.1.0 c.requires.1.1 c.in-Begin.is in
+    table_step c.self.inside.open.table c.args.self.now.table c.self.inside.owed c.requires.0 c.args.next.now _
+    (table_is c.self.view_is) c.self.invariant c.requires.1.0 c.requires.1.1 c.in-Begin.is in
     let before = s.before in
     let few = s.few in
     let step = s.step in
@@ -16,8 +17,8 @@ overflow_add-result c =
 pub overflow_add-result-in-Update : goal.overflow_add-result-in-Update
 overflow_add-result-in-Update c =
     let s =
-    table_step c.self.inside.open c.args.self.now c.self.inside.owed c.requires.0 c.args.next.now _
-    c.self.view_is c.self.invariant c.requires.1.0 c.requires.1.1 c.in-Update.is in
+    table_step c.self.inside.open.table c.args.self.now.table c.self.inside.owed c.requires.0 c.args.next.now _
+    (table_is c.self.view_is) c.self.invariant c.requires.1.0 c.requires.1.1 c.in-Update.is in
     let before = s.before in
     let few = s.few in
     let step = s.step in
@@ -26,8 +27,8 @@ overflow_add-result-in-Update c =
 pub overflow_sub-result : goal.overflow_sub-result
 overflow_sub-result c =
     let s =
-    table_step c.self.inside.open c.args.self.now c.self.inside.owed c.requires.0 c.args.next.now _
-    c.self.view_is c.self.invariant c.requires.1.0 c.requires.1.1 c.in-Comp.is in
+    table_step c.self.inside.open.table c.args.self.now.table c.self.inside.owed c.requires.0 c.args.next.now _
+    (table_is c.self.view_is) c.self.invariant c.requires.1.0 c.requires.1.1 c.in-Comp.is in
     let before = s.before in
     let few = s.few in
     let step = s.step in
@@ -36,8 +37,8 @@ overflow_sub-result c =
 pub overflow_sub-result-in-Abort : goal.overflow_sub-result-in-Abort
 overflow_sub-result-in-Abort c =
     let s =
-    table_step c.self.inside.open c.args.self.now c.self.inside.owed c.requires.0 c.args.next.now _
-    c.self.view_is c.self.invariant c.requires.1.0 c.requires.1.1 c.in-Abort.is in
+    table_step c.self.inside.open.table c.args.self.now.table c.self.inside.owed c.requires.0 c.args.next.now _
+    (table_is c.self.view_is) c.self.invariant c.requires.1.0 c.requires.1.1 c.in-Abort.is in
     let before = s.before in
     let few = s.few in
     let step = s.step in
@@ -46,8 +47,8 @@ overflow_sub-result-in-Abort c =
 pub overflow_sub-result-in-Commit : goal.overflow_sub-result-in-Commit
 overflow_sub-result-in-Commit c =
     let s =
-    table_step c.self.inside.open c.args.self.now c.self.inside.owed c.requires.0 c.args.next.now _
-    c.self.view_is c.self.invariant c.requires.1.0 c.requires.1.1 c.in-Commit.is in
+    table_step c.self.inside.open.table c.args.self.now.table c.self.inside.owed c.requires.0 c.args.next.now _
+    (table_is c.self.view_is) c.self.invariant c.requires.1.0 c.requires.1.1 c.in-Commit.is in
     let before = s.before in
     let few = s.few in
     let step = s.step in
@@ -58,8 +59,8 @@ overflow_sub-result-in-Commit c =
 pub overflow_sub-result-in-End : goal.overflow_sub-result-in-End
 overflow_sub-result-in-End c =
     let s =
-    table_step c.self.inside.open c.args.self.now c.self.inside.owed c.requires.0 c.args.next.now _
-    c.self.view_is c.self.invariant c.requires.1.0 c.requires.1.1 c.in-End.is in
+    table_step c.self.inside.open.table c.args.self.now.table c.self.inside.owed c.requires.0 c.args.next.now _
+    (table_is c.self.view_is) c.self.invariant c.requires.1.0 c.requires.1.1 c.in-End.is in
     let before = s.before in
     let few = s.few in
     let step = s.step in
@@ -70,8 +71,8 @@ overflow_sub-result-in-End c =
 pub returns-in-Begin : goal.returns-in-Begin
 returns-in-Begin c rs of may =
     let s =
-    table_step c.self.inside.open c.args.self.now c.self.inside.owed rs c.args.next.now _
-    c.self.view_is c.self.invariant of may c.in-Begin.is in
+    table_step c.self.inside.open.table c.args.self.now.table c.self.inside.owed rs c.args.next.now _
+    (table_is c.self.view_is) c.self.invariant of may c.in-Begin.is in
     let before = s.before in
     let few = s.few in
     let step = s.step in
@@ -80,8 +81,8 @@ returns-in-Begin c rs of may =
 pub returns-in-Update : goal.returns-in-Update
 returns-in-Update c rs of may =
     let s =
-    table_step c.self.inside.open c.args.self.now c.self.inside.owed rs c.args.next.now _
-    c.self.view_is c.self.invariant of may c.in-Update.is in
+    table_step c.self.inside.open.table c.args.self.now.table c.self.inside.owed rs c.args.next.now _
+    (table_is c.self.view_is) c.self.invariant of may c.in-Update.is in
     let before = s.before in
     let few = s.few in
     let step = s.step in
@@ -90,8 +91,8 @@ returns-in-Update c rs of may =
 pub returns-in-Comp : goal.returns-in-Comp
 returns-in-Comp c rs of may =
     let s =
-    table_step c.self.inside.open c.args.self.now c.self.inside.owed rs c.args.next.now _
-    c.self.view_is c.self.invariant of may c.in-Comp.is in
+    table_step c.self.inside.open.table c.args.self.now.table c.self.inside.owed rs c.args.next.now _
+    (table_is c.self.view_is) c.self.invariant of may c.in-Comp.is in
     let before = s.before in
     let few = s.few in
     let step = s.step in
@@ -100,8 +101,8 @@ returns-in-Comp c rs of may =
 pub returns-in-Abort : goal.returns-in-Abort
 returns-in-Abort c rs of may =
     let s =
-    table_step c.self.inside.open c.args.self.now c.self.inside.owed rs c.args.next.now _
-    c.self.view_is c.self.invariant of may c.in-Abort.is in
+    table_step c.self.inside.open.table c.args.self.now.table c.self.inside.owed rs c.args.next.now _
+    (table_is c.self.view_is) c.self.invariant of may c.in-Abort.is in
     let before = s.before in
     let few = s.few in
     let step = s.step in
@@ -110,8 +111,8 @@ returns-in-Abort c rs of may =
 pub returns-in-BeginChkpt : goal.returns-in-BeginChkpt
 returns-in-BeginChkpt c rs of may =
     let s =
-    table_step c.self.inside.open c.args.self.now c.self.inside.owed rs c.args.next.now _
-    c.self.view_is c.self.invariant of may c.in-BeginChkpt.is in
+    table_step c.self.inside.open.table c.args.self.now.table c.self.inside.owed rs c.args.next.now _
+    (table_is c.self.view_is) c.self.invariant of may c.in-BeginChkpt.is in
     let before = s.before in
     let few = s.few in
     let step = s.step in
@@ -120,8 +121,8 @@ returns-in-BeginChkpt c rs of may =
 pub returns-in-ChkptPages : goal.returns-in-ChkptPages
 returns-in-ChkptPages c rs of may =
     let s =
-    table_step c.self.inside.open c.args.self.now c.self.inside.owed rs c.args.next.now _
-    c.self.view_is c.self.invariant of may c.in-ChkptPages.is in
+    table_step c.self.inside.open.table c.args.self.now.table c.self.inside.owed rs c.args.next.now _
+    (table_is c.self.view_is) c.self.invariant of may c.in-ChkptPages.is in
     let before = s.before in
     let few = s.few in
     let step = s.step in
@@ -130,8 +131,8 @@ returns-in-ChkptPages c rs of may =
 pub returns-in-ChkptTxns : goal.returns-in-ChkptTxns
 returns-in-ChkptTxns c rs of may =
     let s =
-    table_step c.self.inside.open c.args.self.now c.self.inside.owed rs c.args.next.now _
-    c.self.view_is c.self.invariant of may c.in-ChkptTxns.is in
+    table_step c.self.inside.open.table c.args.self.now.table c.self.inside.owed rs c.args.next.now _
+    (table_is c.self.view_is) c.self.invariant of may c.in-ChkptTxns.is in
     let before = s.before in
     let few = s.few in
     let step = s.step in
@@ -140,8 +141,8 @@ returns-in-ChkptTxns c rs of may =
 pub returns-in-EndChkpt : goal.returns-in-EndChkpt
 returns-in-EndChkpt c rs of may =
     let s =
-    table_step c.self.inside.open c.args.self.now c.self.inside.owed rs c.args.next.now _
-    c.self.view_is c.self.invariant of may c.in-EndChkpt.is in
+    table_step c.self.inside.open.table c.args.self.now.table c.self.inside.owed rs c.args.next.now _
+    (table_is c.self.view_is) c.self.invariant of may c.in-EndChkpt.is in
     let before = s.before in
     let few = s.few in
     let step = s.step in
@@ -150,8 +151,8 @@ returns-in-EndChkpt c rs of may =
 pub returns-in-Extend : goal.returns-in-Extend
 returns-in-Extend c rs of may =
     let s =
-    table_step c.self.inside.open c.args.self.now c.self.inside.owed rs c.args.next.now _
-    c.self.view_is c.self.invariant of may c.in-Extend.is in
+    table_step c.self.inside.open.table c.args.self.now.table c.self.inside.owed rs c.args.next.now _
+    (table_is c.self.view_is) c.self.invariant of may c.in-Extend.is in
     let before = s.before in
     let few = s.few in
     let step = s.step in
@@ -160,8 +161,8 @@ returns-in-Extend c rs of may =
 pub returns-in-Commit : goal.returns-in-Commit
 returns-in-Commit c rs of may =
     let s =
-    table_step c.self.inside.open c.args.self.now c.self.inside.owed rs c.args.next.now _
-    c.self.view_is c.self.invariant of may c.in-Commit.is in
+    table_step c.self.inside.open.table c.args.self.now.table c.self.inside.owed rs c.args.next.now _
+    (table_is c.self.view_is) c.self.invariant of may c.in-Commit.is in
     let before = s.before in
     let few = s.few in
     let step = s.step in
@@ -172,8 +173,8 @@ returns-in-Commit c rs of may =
 pub returns-in-End : goal.returns-in-End
 returns-in-End c rs of may =
     let s =
-    table_step c.self.inside.open c.args.self.now c.self.inside.owed rs c.args.next.now _
-    c.self.view_is c.self.invariant of may c.in-End.is in
+    table_step c.self.inside.open.table c.args.self.now.table c.self.inside.owed rs c.args.next.now _
+    (table_is c.self.view_is) c.self.invariant of may c.in-End.is in
     let before = s.before in
     let few = s.few in
     let step = s.step in
