@@ -81,8 +81,8 @@ abbrev pub AreNewer : ℕ → List (List Receipt) → List Work → Type 0
 AreNewer began sessions works = All (λ lsn. lsn_of began ≤ lsn) (lsns_of sessions works)
 
 -- the log had so many records when the sessions began. The shares of the sessions add up to the
--- changes that it has got since; each receipt stands, and so does each Point and copy; none of their
--- records is older; and nothing was answered twice
+-- changes that it has got since; each receipt stands, and so does each Point and copy; none of
+-- their records is older; and nothing was answered twice
 pub record IsSettled (began : ℕ) (e : Evidence) (sessions : List (List Receipt))
     (works : List Work) : Type 0 where
   pub counted : AddUp began sessions e.log.records
@@ -125,8 +125,9 @@ pub record IsOlderAt (began : ℕ) (sessions : List (List Receipt)) (works : Lis
   pub there : 0 < times at (lsns_of sessions works)
 
 -- what an LSN names where a run is not settled. The shares are looked at first: where they do not
--- add up, it is 0. Else it is that of a receipt or Point whose record is older than its sessions, or
--- that does not stand, or of two that have it; or it is 0, and a copy does not stand or comes twice
+-- add up, it is 0. Else it is that of a receipt or Point whose record is older than its sessions,
+-- or that does not stand, or of two that have it; or it is 0, and a copy does not stand or comes
+-- twice
 abbrev pub IsWrongAt : ℕ → Evidence → List (List Receipt) → List Work → ℕ → Type 0
 IsWrongAt began e sessions works at =
     ((¬ AddUp began sessions e.log.records) × (at ≡ 0))

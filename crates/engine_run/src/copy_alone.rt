@@ -15,9 +15,9 @@ use std::sync::Wait;
 use std::sync::ledger::Ledger;
 
 impl<S: PageStore, D: LogDevice, G: Ledger> Shared<S, D, G> {
-    /// Makes an image copy as `copy_with` does by one worker, but in the thread that calls: it starts
-    /// none. Each page is one hold, in the order of their numbers. Refusals are those of `copy_with`,
-    /// and the copy is dropped as there.
+    /// Makes an image copy as `copy_with` does by one worker, but in the thread that calls: it
+    /// starts none. Each page is one hold, in the order of their numbers. Refusals are those of
+    /// `copy_with`, and the copy is dropped as there.
     pub fn copy_alone(
         &self,
         rt: &impl Wait,

@@ -45,9 +45,9 @@ pub fn a_free_lock_guards_a_fit_engine<S: PageStore, D: LogDevice, G: Ledger>(he
     a_complete_copy_restores();
 }
 
-/// The changes that the log has got since the sessions began are those that were answered, each once:
-/// one receipt of a change has the LSN of each Update. That a receipt of a change has an Update of its
-/// own in the log is a part of what *settled* says.
+/// The changes that the log has got since the sessions began are those that were answered, each
+/// once: one receipt of a change has the LSN of each Update. That a receipt of a change has an
+/// Update of its own in the log is a part of what *settled* says.
 pub fn each_change_was_answered_once()
     ensures { (began : ℕ) (e : Evidence) (sessions : List (List Receipt)) (works : List Work)
         → IsSettled began e sessions works → (i : ℕ) (d : Record) → began ≤ i

@@ -127,9 +127,9 @@ impl<S: PageStore + Drop, D: LogDevice + Drop, G: Ledger> Held<S, D, G> {
 }
 
 /// Ends the run of a shared engine, where it is settled: then its log has got each change that a
-/// session was answered, and no others, since it began. What was under the lock is compared with the
-/// receipts of all sessions, and with what its checkpoints and copies answered. Where it is refused, all is
-/// given back, and the engine can go on.
+/// session was answered, and no others, since it began. What was under the lock is compared with
+/// the receipts of all sessions, and with what its checkpoints and copies answered. Where it is
+/// refused, all is given back, and the engine can go on.
 pub fn settle<S: PageStore + Drop, D: LogDevice + Drop, G: Ledger>(
     alloc: Global,
     sessions: Vec<Session<G>>,
