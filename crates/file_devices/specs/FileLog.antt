@@ -73,6 +73,13 @@ abbrev pub ResumeFails : List ℕ → List FileCall → Type 0
 ResumeFails bytes calls = (calls ≡ failed (Read 0 bytes) ∷ [])
     ⊎ (calls ≡ done (Read 0 bytes) ∷ failed Sync ∷ [])
 
+-- the file was to have these bytes as its first ones, then to be cut behind them, and to sync; one
+-- of these failed, and it was asked for no more
+abbrev pub KeepFails : List FileCall → List ℕ → List FileCall → Type 0
+KeepFails old front new = (new ≡ old ++ failed (Write 0 front) ∷ [])
+    ⊎ (new ≡ old ++ done (Write 0 front) ∷ failed (SetLen (length front)) ∷ [])
+    ⊎ (new ≡ old ++ done (Write 0 front) ∷ done (SetLen (length front)) ∷ failed Sync ∷ [])
+
 -- what comes of a sync: the file was asked to sync, once, and for nothing else
 pub record Syncs (old : List FileCall) (result : Result Unit DeviceFault) (new : List FileCall)
     : Type 0 where

@@ -1,13 +1,14 @@
 //! A log's device on a file.
 
-ghost use Rattle.std.specs.Prelude.{◌≡◌, ◌≤◌, [], ◌∷◌, length, IfOk, IfErr};
+ghost use Rattle.std.specs.Prelude.{◌≡◌, ◌≤◌, [], ◌∷◌, ◌++◌, length, IfOk, IfErr, OnErr, OnOk};
 ghost use Rattle.file_devices.specs.Calls.{done, failed, failed_count};
-ghost use Rattle.file_devices.specs.FileLog.{ResumeFails, Stores, Syncs, known_of};
-ghost use Rattle.file_devices.specs.declared.calls.Request.TheVariants.{Read, SetLen, Sync};
+ghost use Rattle.file_devices.specs.FileLog.{KeepFails, ResumeFails, Stores, Syncs, known_of};
+ghost use Rattle.file_devices.specs.declared.calls.Request.TheVariants.{Read, SetLen, Sync, Write};
 
 use crate::tracked_file::{FailedFile, TrackedFile};
 use log_store::{DeviceFault, LogDevice};
 use std::fs::File;
+use std::io;
 use std::marker::Model;
 
 /// A log's device on a file. Contracts see the calls that were made of the file, and what is known
@@ -65,6 +66,33 @@ impl FileLog {
             Ok(()) => Ok(FileLog { file }),
             Err(error) => Err(FailedFile::new(error, file)),
         }
+    }
+}
+
+impl FileLog {
+    /// Stores these bytes again as the first ones of the file, cuts off what stands behind them, and
+    /// waits until that lasts. So bytes that were read from the system's memory, since a sync of an
+    /// older life failed, are stored now, and what is cut off never comes back.
+    ///
+    /// An `Err` comes where a call of the file fails, and no call follows that one. It takes no
+    /// memory.
+    pub fn keep(&mut self, front: &[u8]) -> Result<(), DeviceFault>
+        ensures bytes { OnOk result ((known_of self.new).bytes ≡ front.now) }
+        ensures lasts { OnOk result ((known_of self.new).lasting ≡ length front.now) }
+        ensures calls { OnOk result (self.new ≡ self.old
+            ++ done (Write 0 front.now) ∷ done (SetLen (length front.now)) ∷ done Sync ∷ []) }
+        ensures failed { OnErr result (KeepFails self.old front.now self.new) }
+    {
+        self.file.write_at(0, front).map_err(|_| DeviceFault)?;
+        self.file
+            .set_len(front.len() as u64)
+            .map_err(|_| DeviceFault)?;
+        self.sync()
+    }
+
+    /// Why the last call of the file failed, if it did and the system told why.
+    pub fn error(&self) -> Option<io::Error> {
+        self.file.error()
     }
 }
 

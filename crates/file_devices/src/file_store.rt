@@ -101,6 +101,12 @@ impl FileStore {
         Ok(())
     }
 
+    /// Why the last call of the file failed, if it did and the system told why. Where a read failed
+    /// since the file has something else than was written, no call of it failed.
+    pub fn error(&self) -> Option<io::Error> {
+        self.file.error()
+    }
+
     /// A call that fails.
     fn fail(&mut self) -> StoreFault
         ensures { self.new ≡ record self.old { failures = self.old.failures + 1 } }

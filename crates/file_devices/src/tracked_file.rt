@@ -17,6 +17,8 @@ use std::{fmt, io};
 pub(crate) struct TrackedFile {
     file: File,
     calls: Calls,
+    /// The number that the system has for why the last call failed, if it did.
+    error: Option<i32>,
 }
 
 impl Model for TrackedFile {
@@ -37,7 +39,23 @@ impl TrackedFile {
         TrackedFile {
             file,
             calls: Calls::None,
+            error: None,
         }
+    }
+
+    /// Why the last call failed, if it did and the system told why.
+    pub fn error(&self) -> Option<io::Error> {
+        Some(io::Error::from_raw_os_error(self.error?))
+    }
+
+    /// Notes why a call failed, if it did.
+    fn note_error(&mut self, answer: &io::Result<()>)
+        ensures { self.new ≡ self.old }
+    {
+        self.error = match answer {
+            Ok(()) => None,
+            Err(error) => error.raw_os_error(),
+        };
     }
 
     /// Cuts the file, or fills it up with zero bytes, so that it has so many bytes.
@@ -45,6 +63,7 @@ impl TrackedFile {
         ensures { self.new ≡ self.old ++ call (SetLen len) (is_ok result) ∷ [] }
     {
         let answer = self.file.set_len(len);
+        self.note_error(&answer);
         self.calls.note(Request::SetLen(len), answer.is_ok());
         answer
     }
@@ -54,6 +73,7 @@ impl TrackedFile {
         ensures { self.new ≡ self.old ++ call (Write at bytes.now) (is_ok result) ∷ [] }
     {
         let answer = self.file.write_all_at(bytes, at);
+        self.note_error(&answer);
         let bytes = SliceSnapshot::of(bytes);
         self.calls
             .note(Request::Write { at, bytes }, answer.is_ok());
@@ -65,6 +85,7 @@ impl TrackedFile {
         ensures { self.new ≡ self.old ++ call (Read at buffer.new) (is_ok result) ∷ [] }
     {
         let answer = self.file.read_exact_at(buffer, at);
+        self.note_error(&answer);
         let bytes = SliceSnapshot::of(buffer);
         self.calls.note(Request::Read { at, bytes }, answer.is_ok());
         answer
@@ -75,6 +96,7 @@ impl TrackedFile {
         ensures { self.new ≡ self.old ++ call Sync (is_ok result) ∷ [] }
     {
         let answer = self.file.sync_data();
+        self.note_error(&answer);
         self.calls.note(Request::Sync, answer.is_ok());
         answer
     }
