@@ -1,14 +1,21 @@
-# make imgcopy    proves and builds the program, and leaves it at build/imgcopy, and a bank for the demo beside it
+# make imgcopy    proves what the program stands on, and the program, builds it, and leaves it at build/imgcopy
+# make quick      a first look: runs the tests from the sources, unproved, side by side, and plays the demo's day, in less
+#                 than ten minutes where nothing is built; nothing is proved, and no wrong body is tried
 # make demo       plays a day of a small database with image copies, loses its volume and restores it, and shows its
-#                 pages; if the program is not built, rt runs the sources unproved; then, if it is built, a day of a
-#                 bank with many threads, whose files imgcopy audits and restores
-# make test       all tests: the gate, which proves every crate and tries its tests, its programs and its must-fail
-#                 edits, and then what make check does, on the program that the gate has built
+#                 pages; if the program is not built, rt runs the sources unproved; then, if build/demo_bank is built, a day
+#                 of a bank with many threads, whose files imgcopy audits and restores
+# make bank       proves and builds that bank, and plays its day
+# make test       all tests: the gate, which proves every crate and tries its tests, its programs and the wrong bodies that
+#                 stand for a promise, then what make check does, on the program that the gate has built, and then a sample
+#                 of the other wrong bodies; it prints how long each phase took
 # make check      compares the program's answers to the examples and to spoiled logs with the expected ones, and those
 #                 to scripts with a model of the engine, also with each of its allocations refused in turn;
 #                 if rt is used, those of read_log and of the engine too, by a program of their own; and checks
 #                 that what the documents name is there
-# make plants     tries the wrong bodies that the gate leaves out for its time
+# make crate      with NAME=CRATE, for a change to one crate: proves it and its tests, tries all of its wrong bodies, and
+#                 runs the checks on build/imgcopy, if that is there
+# make plants     tries all wrong bodies, those of the gate too; with SAMPLE=20 so many, which hang on the commit's hash,
+#                 and with CRATES="NAME NAME" those of some crates; it works on a copy of the crates
 # make bench      measures the program beside a plain Rust program, prints a table, and draws bench/times.svg; it measures
 #                 the program alone on inputs that are chosen to cost much; it measures how time and memory grow, and
 #                 draws bench/growth.svg; if rt is used, it then measures copies of a shared engine by many workers, and
@@ -41,14 +48,21 @@ endif
 need = @command -v "$(1)" > /dev/null || { echo "make: the program '$(1)' is missing: $(2)" >&2; exit 1; }
 
 .DEFAULT_GOAL := imgcopy
-.PHONY: imgcopy demo test check plants bench examples contracts bench-programs install clean
+.PHONY: imgcopy quick demo bank test check crate plants bench examples contracts bench-programs install clean
 .PHONY: need-rt need-python3 need-cargo need-rustc need-imgcopy
 
 imgcopy: need-rt
-	@tools/build.sh imgcopy demo_bank
+	@tools/build.sh imgcopy
+
+quick: need-rt
+	@tools/quick.sh
 
 demo: need-python3
 	@tools/demo.sh $(GIVEN) "$(IMGCOPY)" build/day
+	@tools/bank.sh build/demo_bank "$(IMGCOPY)" build/bank-day
+
+bank: need-rt need-python3
+	@tools/build.sh demo_bank
 	@tools/bank.sh build/demo_bank "$(IMGCOPY)" build/bank-day
 
 # The last line must be that of the script, so nothing follows it.
@@ -58,8 +72,11 @@ test:
 check: $(PROGRAM)
 	@tools/run_tests.sh $(GIVEN) "$(IMGCOPY)"
 
-plants: need-rt
-	@tools/plants.sh
+crate: need-rt need-python3
+	@tools/crate.sh "$(NAME)"
+
+plants: need-rt need-python3
+	@python3 tools/plants.py $(if $(SAMPLE),--sample $(SAMPLE)) $(CRATES)
 
 bench: need-python3 bench-programs $(PROGRAM)
 	@python3 bench/run.py --imgcopy "$(IMGCOPY)" --tools $(BENCH_PROGRAMS) --rounds $(ROUNDS) > build/bench.md

@@ -54,7 +54,7 @@ play_killed() {
 folder=$3 sum=6400000
 echo
 if ! command -v "$1" > /dev/null; then
-    echo "The bank with many threads is left out: 'make' proves and builds its program."
+    echo "The bank with many threads is left out: 'make bank' proves and builds its program."
     exit 0
 fi
 bank=$1

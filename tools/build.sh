@@ -1,8 +1,9 @@
 #!/usr/bin/env bash
 # usage: build.sh [PROGRAM..]
-# Proves all crates, those that do not stand on one another side by side, and puts each program, imgcopy if none is
-# named, into build/. What rt says goes to build/prove.log, whose end is shown where rt fails. The sum of the sources
-# that were proved is kept in build/proved: while they and the kit stay as they are, nothing is proved or built again.
+# Proves each program, imgcopy if none is named, and the crates that it stands on, as crates.txt has them, those that do
+# not stand on one another side by side, and puts it into build/. No other crate is proved. What rt says goes to
+# build/prove.log, whose end is shown where rt fails. The sum of the sources that were proved is kept in
+# build/PROGRAM.proved: while they and the kit stay as they are, nothing of the program is proved or built again.
 set -u
 cd "$(dirname "$0")/.." || exit 1
 . tools/lanes.sh
@@ -15,32 +16,50 @@ fail() {
     exit 1
 }
 
+# The lines of crates.txt of a crate and of all that it stands on.
+lines_of() {
+    sed 's/ *#.*//' crates.txt | awk -F ' *: *' -v wanted="$1" '
+        NF { line[$1] = $0; uses[$1] = $2 }
+        END {
+            list[count = 1] = wanted
+            for (i = 1; i <= count; i++) {
+                if (!(list[i] in line) || list[i] in seen) continue
+                seen[list[i]]
+                print line[list[i]]
+                for (j = split(uses[list[i]], names, " "); j > 0; j--) list[++count] = names[j]
+            }
+        }' | sort
+}
+
+# What the kit, the handles and the sources of a program and of what it stands on add up to. Wrong bodies are no part.
 sum_of_sources() {
+    local lines folders
+    lines=$(lines_of "$1")
+    mapfile -t folders < <(sed 's/ *:.*//; s|^|crates/|' <<< "$lines")
     {
         rt version
-        find crates crates.txt HANDLES -name out -prune -o -type f -print0 | sort -z | xargs -0 sha256sum
+        echo "$lines"
+        cat HANDLES
+        find "${folders[@]}" \( -name out -o -name must-fail \) -prune -o -type f -print0 | sort -z | xargs -0 sha256sum
     } | sha256sum
 }
 
-# rt takes the lowest crates first, as many at once as it is told, and says "== NAME" once a crate is done. Before the
-# first proof it looks over the sources of each crate that no other one uses, as far as the libraries below are not
-# built yet, and one after another. So it begins with the one crate that stands on every library.
-prove_all() {
+# In a crate's folder rt looks over that crate's sources first, and then takes those below it and itself, the lowest
+# first, as many at once as it is told. It says "== NAME" once a crate is done.
+prove() {
     local count
-    count=$(grep -c '^[a-z]' crates.txt)
-    for folder in crates/test_surface .; do
-        (cd "$folder" && PYTHONUNBUFFERED=1 rt all check --jobs "$(lanes)" 2>&1) || return 1
-    done | tee -a "$log" | show_progress "$count"
+    count=$(lines_of "$1" | wc -l)
+    (cd "crates/$1" && PYTHONUNBUFFERED=1 rt all check --jobs "$(lanes)" 2>&1) | tee -a "$log" | show_progress "$count"
     return "${PIPESTATUS[0]}"
 }
 
 show_progress() {
     local mark crate rest
-    declare -A done=()
+    declare -A told=()
     while read -r mark crate rest; do
-        if [ "$mark" = == ] && [ "$crate" != summary ] && [ -z "$rest" ] && [ -z "${done[$crate]-}" ]; then
-            done[$crate]=1
-            echo "done: $crate (${#done[@]} of $1 crates, $(($1 - ${#done[@]})) left)"
+        if [ "$mark" = == ] && [ "$crate" != summary ] && [ -z "$rest" ] && [ -z "${told[$crate]-}" ]; then
+            told[$crate]=1
+            echo "done: $crate (${#told[@]} of $1 crates, $(($1 - ${#told[@]})) left)"
         fi
     done
 }
@@ -54,19 +73,16 @@ build_program() {
 }
 
 mkdir -p build
-sum=$(sum_of_sources)
-if [ "$sum" != "$(cat build/proved 2> /dev/null)" ]; then
-    : > "$log"
-    rm -f build/*.built build/proved
-    prove_all || fail "not every crate is proved"
-    echo "$sum" > build/proved
-fi
 [ $# -gt 0 ] || set -- imgcopy
 for program in "$@"; do
-    if [ ! -e "build/$program.built" ] || [ ! -x "build/$program" ]; then
-        build_program "$program" || fail "$program does not run"
-        cp -f "crates/$program/out/$program" "build/$program" || exit 1
-        touch "build/$program.built"
-        echo "built build/$program"
-    fi
+    [ -n "$(lines_of "$program")" ] || { echo "build.sh: crates.txt has no crate $program" >&2; exit 1; }
+    sum=$(sum_of_sources "$program")
+    [ ! -x "build/$program" ] || [ "$sum" != "$(cat "build/$program.proved" 2> /dev/null)" ] || continue
+    : > "$log"
+    rm -f "build/$program.proved"
+    prove "$program" || fail "$program, or a crate that it stands on, is not proved"
+    build_program "$program" || fail "$program does not run"
+    cp -f "crates/$program/out/$program" "build/$program" || exit 1
+    echo "$sum" > "build/$program.proved"
+    echo "built build/$program"
 done

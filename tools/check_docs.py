@@ -1,6 +1,6 @@
 #!/usr/bin/env python3
 """Looks up what the documents name in backticks, and fails where the repository does not have it, or where a crate's
-README does not name a file of its `src`.
+README does not name a file of its `src`, or where docs/WRONG_BODIES.md does not name a crate's wrong bodies of the gate.
 
 usage: check_docs.py
 
@@ -125,6 +125,17 @@ def unnamed_files():
                 yield f"crates/{crate}/README.md: it does not name {path.relative_to(folder)}"
 
 
+def other_wrong_bodies():
+    """Where docs/WRONG_BODIES.md has other wrong bodies of a crate than the gate tries. It need not have each crate."""
+    told = (ROOT / "docs" / "WRONG_BODIES.md").read_text(encoding="utf-8")
+    named = set(re.findall(r"^\| `(\w+)` \| `(\w+)` \|", told, re.MULTILINE))
+    for crate in sorted({crate for crate, _ in named}):
+        there = {(crate, edit.stem) for edit in (ROOT / "crates" / crate / "must-fail").glob("*.edit")}
+        for _, body in sorted(there ^ {(owner, name) for owner, name in named if owner == crate}):
+            kind = "does not name" if (crate, body) in there else "names what the gate does not try:"
+            yield f"docs/WRONG_BODIES.md: it {kind} {crate}/{body}"
+
+
 def fault_of_version():
     """What is wrong with the version that the manual page tells, or None."""
     latest = re.search(r"^## (\S+),", (ROOT / "CHANGELOG.md").read_text(encoding="utf-8"), re.MULTILINE)[1]
@@ -136,7 +147,7 @@ def fault_of_version():
 
 def main():
     sources, count = Sources(), 0
-    faults = [fault for fault in [fault_of_version(), *unnamed_files()] if fault]
+    faults = [fault for fault in [fault_of_version(), *unnamed_files(), *other_wrong_bodies()] if fault]
     for document in documents():
         for line, span in spans(document.read_text(encoding="utf-8")):
             fault = fault_of(span, document.parent, sources)

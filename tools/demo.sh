@@ -1,7 +1,8 @@
 #!/usr/bin/env bash
-# usage: demo.sh [--given] PROGRAM FOLDER
+# usage: demo.sh [--given | --unproved] PROGRAM FOLDER
 # Plays the day of checks/day.sh. Where PROGRAM is not built yet, rt plays it from the sources, unproved, in one run
-# whose script ends with a restore, since each run by rt compiles the sources anew. A PROGRAM that is given has to be there.
+# whose script ends with a restore, since each run by rt compiles the sources anew; so it does with --unproved. A PROGRAM
+# that is given has to be there.
 # Ends with status 0, and with a last line that begins with 'ok day', where all of it is as expected.
 set -u
 cd "$(dirname "$0")/.." || exit 1
@@ -11,21 +12,23 @@ fail() {
     exit 1
 }
 
-given=false
-if [ "${1-}" = --given ]; then
-    given=true
-    shift
-fi
+given=false unproved=false
+case "${1-}" in
+    --given) given=true; shift ;;
+    --unproved) unproved=true; shift ;;
+esac
 [ $# -eq 2 ] || fail "two arguments are wanted, the program and a folder"
 ! "$given" || command -v "$1" > /dev/null || fail "there is no program $1"
-! command -v "$1" > /dev/null || exec checks/day.sh "$1" "$2"
+"$unproved" || ! command -v "$1" > /dev/null || exec checks/day.sh "$1" "$2"
 command -v rt > /dev/null || fail "the program 'rt' is missing: the kit that proves and builds imgcopy"
 folder=$2
 rm -rf "$folder"
 mkdir -p "$folder" || fail "$folder cannot be made"
 saved=$(realpath "$folder")
 
-echo "$1 is not built: rt runs the sources unproved, in about a minute and a half on a busy machine, less on a quiet one."
+why="$1 is not built: "
+! "$unproved" || why=
+echo "${why}rt runs the sources unproved, in about a minute and a half on a busy machine, less on a quiet one."
 echo "'make' proves and builds the program."
 echo "\$ imgcopy run --pages 3 --save $folder < examples/day.script    (and then 'restore 3 all')"
 { cat examples/day.script; echo "restore 3 all"; } > "$folder/script"

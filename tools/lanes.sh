@@ -1,4 +1,5 @@
-# For build.sh and run_tests.sh, which source it.
+# shellcheck shell=bash
+# For the scripts of this folder that source it.
 
 # How many checks are made side by side: as RT_JOBS says, or else one a processor, as far as each has 5 GiB of memory.
 lanes() {

@@ -1,13 +1,28 @@
 #!/usr/bin/env bash
-# usage: run_tests.sh --gate             runs the gate, and then each check on the program that it has built
+# usage: run_tests.sh --gate             runs the gate, then each check on the program that it has built, and then tries
+#                                        a sample of the wrong bodies that the gate leaves out
 #        run_tests.sh PROGRAM            runs each check on this program
 #        run_tests.sh --given PROGRAM    runs each check on this program that needs no rt
-# The last line is 'N passed, M failed', and ', K skipped' where a tool is missing. A check passes if it ends with
-# status 0 and its last line begins with 'ok' and its name. The status is 0 if nothing failed.
+# The last line is 'N passed, M failed', and ', K skipped' where a tool is missing; the lines before it say how long
+# each phase took. A check passes if it ends with status 0 and its last line begins with 'ok' and its name. The status is
+# 0 if nothing failed.
 set -u
 cd "$(dirname "$0")/.." || exit 1
 . tools/lanes.sh
-passed=0 failed=0 skipped=0
+passed=0 failed=0 skipped=0 phases=() sampled=8 counts_of_rt='^([0-9]+) passed, ([0-9]+) failed$'
+
+# phase NAME COMMAND..: runs it, and notes how long it took.
+phase() {
+    local label=$1 began=$SECONDS took
+    shift
+    "$@"
+    took=$((SECONDS - began))
+    if [ "$took" -lt 60 ]; then
+        phases+=("phase $label: $took s")
+    else
+        phases+=("phase $label: $(((took + 30) / 60)) min")
+    fi
+}
 
 # The gate leaves each program in out/. An older one is removed first, so that none but the gate's own is checked. Told
 # how many checks to make, rt gives each one processor; what it does with more costs a third more of their time.
@@ -18,8 +33,8 @@ run_gate() {
     bank=crates/demo_bank/out/demo_bank
     rm -f "$program" "$check_library" "$check_faults" "$bank"
     RT_JOBS=$(lanes) PYTHONUNBUFFERED=1 rt ci 2>&1 | tee build/gate.log
-    local status=${PIPESTATUS[0]} counts='^([0-9]+) passed, ([0-9]+) failed$'
-    if [[ $(tail -n 1 build/gate.log) =~ $counts ]]; then
+    local status=${PIPESTATUS[0]}
+    if [[ $(tail -n 1 build/gate.log) =~ $counts_of_rt ]]; then
         passed=${BASH_REMATCH[1]} failed=${BASH_REMATCH[2]}
     else
         echo "FAILED gate: it ended with status $status, and without its counts"
@@ -123,7 +138,7 @@ bank_rot() {
 
 # The store is proved and built in a root of its own.
 kv() {
-    python3 -m checks.kv "$program"
+    preload file_calls checks.kv "$program"
 }
 
 # A file system in a file is made and mounted there, which needs root.
@@ -132,22 +147,45 @@ bank_disks() {
     python3 -m checks.bank_disks "$bank" "$program"
 }
 
+# The gate has proved all crates on this machine, so these are tried in minutes; where it has kept nothing, they would
+# take as long as the gate. Which ones they are hangs on the commit's hash, so that over time each is tried.
+run_sample() {
+    local why=
+    command -v python3 > /dev/null || why="python3 is missing"
+    ! grep -aEq '^rt: note: .*(so nothing is|came after is not|what this run proved.* is not) kept' build/gate.log ||
+        why="rt has not kept the gate's proofs"
+    [ "$failed" -eq 0 ] || why="something failed before"
+    [ -z "$why" ] || { skip sample "$why"; return; }
+    python3 tools/plants.py --sample "$sampled" --left-out 2>&1 | tee build/sample.log
+    if [[ $(tail -n 1 build/sample.log) =~ $counts_of_rt ]]; then
+        passed=$((passed + BASH_REMATCH[1])) failed=$((failed + BASH_REMATCH[2]))
+    else
+        echo "FAILED sample: it ended without its counts"
+        failed=$((failed + 1))
+    fi
+}
+
 run_checks() {
     check contracts python3 -- python3 tools/contracts.py --check
     check documents python3 -- python3 tools/check_docs.py
     check laws python3 -- python3 tools/check_laws.py
+    check wrong_bodies python3 -- python3 tools/plants.py --look
     check examples "$program" python3 -- checks/check.sh "$program"
     check day "$program" python3 -- checks/day.sh "$program" build/day
     check memory "$program" python3 rustc -- refuse_memory checks.memory "$program"
     check run_memory "$program" python3 rustc -- refuse_memory checks.run_memory "$program"
     check unsaved "$program" python3 -- python3 -m checks.unsaved "$program"
     check operator "$program" python3 -- python3 -m checks.operator "$program"
+    check outputs "$program" python3 -- python3 -m checks.outputs "$program"
     check log_out "$program" python3 -- python3 -m checks.log_out "$program"
     check show "$program" python3 -- python3 -m checks.show "$program"
     check guide "$program" python3 -- python3 -m checks.guide "$program"
     check open_cases "$program" python3 -- python3 -m checks.open_cases "$program"
     check open_losses "$program" python3 -- python3 -m checks.open_losses "$program"
     check open_kills "$program" python3 -- python3 -m checks.open_kills "$program"
+    check open_flips "$program" python3 -- python3 -m checks.open_flips "$program"
+    check open_cuts "$program" python3 rustc -- preload file_calls checks.open_cuts "$program"
+    check open_tools "$program" python3 rustc -- preload file_calls checks.open_tools "$program"
     check saves_at_once "$program" python3 -- python3 -m checks.saves_at_once "$program"
     check frames "$program" python3 -- python3 -m checks.few_frames "$program"
     check faults "$program" python3 -- python3 -m checks.faults "$program"
@@ -165,7 +203,7 @@ run_checks() {
         check bank_threads "$program" rt python3 rustc -- bank_threads
         check bank_rot "$program" rt python3 -- bank_rot
         if python3 -m checks.kv --can; then
-            check kv "$program" rt python3 -- kv
+            check kv "$program" rt python3 rustc -- kv
         else
             skip kv "rt has not kept the proofs of the crates on this machine"
         fi
@@ -194,14 +232,16 @@ fi
 mkdir -p build
 if [ "$1" = --gate ]; then
     is_gate=true
-    run_gate
+    phase gate run_gate
 else
     is_gate=false
     program=$1 check_library=build/check_library check_faults=build/check_faults bank=build/demo_bank
 fi
-run_checks
+phase checks run_checks
+! "$is_gate" || phase "sample of wrong bodies" run_sample
 # What the gate refused is told again here, where the reader of a long output looks first.
 "$is_gate" && grep -a 'FAILED: \|NOT PROVED' build/gate.log
+printf '%s\n' "${phases[@]}"
 counts="$passed passed, $failed failed"
 [ "$skipped" -eq 0 ] || counts+=", $skipped skipped"
 echo "$counts"
