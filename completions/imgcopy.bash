@@ -5,6 +5,7 @@ _imgcopy() {
     commands="redo run open restore audit show list help"
     COMPREPLY=()
     if [ "$COMP_CWORD" -eq 1 ] || [ "$COMP_CWORD" -eq 2 -a "${COMP_WORDS[1]}" = help ]; then
+        [[ $word == -* ]] && commands="--help --version"
         COMPREPLY=($(compgen -W "$commands" -- "$word"))
         return
     fi
@@ -14,10 +15,10 @@ _imgcopy() {
         -o | --output | --log-out | --master) compopt -o filenames; COMPREPLY=($(compgen -f -- "$word")); return ;;
     esac
     case ${COMP_WORDS[1]} in
-        redo) options="-o --output --help" ;;
-        run) options="--pages --frames --save --strict --help" ;;
-        open) options="--pages --frames --help" ;;
-        restore) options="-o --output --log-out --help" ;;
+        redo) options="-o --output --force --help" ;;
+        run) options="--pages --frames --save --force --strict --help" ;;
+        open) options="--pages --frames --salvage --strict --help" ;;
+        restore) options="-o --output --log-out --force --help" ;;
         audit) options="--all --master --help" ;;
         show) options="--from --to --txn --page --json --help" ;;
         list) options="--json --help" ;;

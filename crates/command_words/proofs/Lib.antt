@@ -1,3 +1,4 @@
+mod ChainLemmas
 mod ClapLemmas
 mod NameLemmas
 mod NearestLemmas
@@ -6,4 +7,5 @@ mod OptionalLemmas
 mod RedoLemmas
 mod RequiredLemmas
 mod RestoreLemmas
+mod RunLemmas
 mod ViewLemmas

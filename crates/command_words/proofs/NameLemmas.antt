@@ -8,11 +8,11 @@ use Rattle.std.proofs.lemmas.Slice.Eq.{bytes_eq-Decides}
 use Rattle.std.proofs.lemmas.Option.{none-some, same_Some}
 use Rattle.clap.specs.Words.{App, Text, fault_of}
 use Rattle.command_words.specs.Command.{IsRedo, IsTaken, IsTakenBy, IsUnknown, Names, apps, audit_app, redo_app}
-use Rattle.command_words.specs.Command.{AsksForHelp, Explains, ExplainsRead, ExplainsUnknown, Gives}
+use Rattle.command_words.specs.Command.{AsksForHelp, AsksForVersion, Explains, ExplainsRead, ExplainsUnknown, Gives}
 use Rattle.command_words.specs.Command.{list_app, open_app, read_as, redo_into_app, restore_app, run_app, show_app}
 use Rattle.clap.specs.declared.error.kind.ErrorKind.TheVariants.{DisplayHelp}
 use Rattle.command_words.specs.declared.command.Command.{Command}
-use Rattle.command_words.specs.declared.command.Command.TheVariants.{Audit, ListFolder, Open, Redo, RedoInto, Restore, Run, Show}
+use Rattle.command_words.specs.declared.command.Command.TheVariants.{Audit, ListFolder, Open, Redo, RedoInto, Restore, Run, Show, Version}
 use Rattle.command_words.specs.declared.command.UsageFault.{UsageFault}
 use Rattle.command_words.specs.declared.command.UsageFault.TheVariants.{BadArguments, HelpAsked, MisspelledCommand}
 use Rattle.command_words.specs.declared.command.UsageFault.TheVariants.{NoCommand, OutOfMemory, UnknownCommand}
@@ -324,22 +324,35 @@ no_l letter l h = omega arith
 pub list_not_help : (name : Text) → name ≡ codes "list" → name ≡ codes "help" → ⊥
 list_not_help name is help = no_l (get_or (codes "list") 0 0) refl (first_letters name (codes "list") (codes "help") is help)
 
-gives_taken : (words : List Text) (command : Command) → Gives words command → IsTaken words
-gives_taken words Redo gives = (0, redo_app, lit< tt, refl, gives)
-gives_taken words (RedoInto output) gives = (4, redo_into_app, lit< tt, refl, gives.0)
-gives_taken words (Run pages frames save strict) gives = (1, run_app, lit< tt, refl, gives.0)
-gives_taken words (Open folder pages frames) gives = (5, open_app, lit< tt, refl, gives.0)
-gives_taken words (Restore log master archives output log_output) gives = (2, restore_app, lit< tt, refl, gives.0)
-gives_taken words (Audit log archives master all) gives = (3, audit_app, lit< tt, refl, gives.0)
-gives_taken words (Show file from to txn page json) gives = (6, show_app, lit< tt, refl, gives.0)
-gives_taken words (ListFolder folder json) gives = (7, list_app, lit< tt, refl, gives.0)
+-- a first word of another length than those that ask for the version
+pub no_version : (words : List Text) (name : Text) → slice_get words 0 ≡ Some name → (length name ≡ 9 → ⊥)
+    → (length name ≡ 2 → ⊥) → IsSomeAnd (slice_get words 0) AsksForVersion → ⊥
+no_version words name first nine two asks =
+    elim (subst (λ o. IsSomeAnd o AsksForVersion) first asks) [
+      | inl is ↦ nine (ap length is)
+      | inr is ↦ two (ap length is)
+    ]
+
+gives_taken : (words : List Text) (command : Command) → (IsSomeAnd (slice_get words 0) AsksForVersion → ⊥)
+    → Gives words command → IsTaken words
+gives_taken words Redo other gives = (0, redo_app, lit< tt, refl, gives)
+gives_taken words (RedoInto output force) other gives = (4, redo_into_app, lit< tt, refl, gives.0)
+gives_taken words (Run pages frames save strict force) other gives = (1, run_app, lit< tt, refl, gives.0)
+gives_taken words (Open folder pages frames salvage strict) other gives = (5, open_app, lit< tt, refl, gives.0)
+gives_taken words (Restore log master archives output log_output force) other gives =
+    (2, restore_app, lit< tt, refl, gives.0)
+gives_taken words (Audit log archives master all) other gives = (3, audit_app, lit< tt, refl, gives.0)
+gives_taken words (Show file from to txn page json) other gives = (6, show_app, lit< tt, refl, gives.0)
+gives_taken words (ListFolder folder json) other gives = (7, list_app, lit< tt, refl, gives.0)
+gives_taken words Version other gives = absurd (other gives)
 
 -- words in which clap finds a fault give no command
-pub help_gives_none : (words : List Text) (app : App) (r : Result Command UsageFault) → IfOk r (Gives words)
+pub help_gives_none : (words : List Text) (app : App) (r : Result Command UsageFault)
+    → (IsSomeAnd (slice_get words 0) AsksForVersion → ⊥) → IfOk r (Gives words)
     → (IsTaken words → fault_of app words ≡ []) → fault_of app words ≡ DisplayHelp ∷ [] → IfOk r (λ _. ⊥)
-help_gives_none words app (Err fault) gives takes asks = tt
-help_gives_none words app (Ok command) gives takes asks =
-    not_empty (sym asks ∙ takes (gives_taken words command gives))
+help_gives_none words app (Err fault) other gives takes asks = tt
+help_gives_none words app (Ok command) other gives takes asks =
+    not_empty (sym asks ∙ takes (gives_taken words command other gives))
   where
     not_empty : DisplayHelp ∷ [] ≡ [] → ⊥
     not_empty e = cc

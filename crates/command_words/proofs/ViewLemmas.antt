@@ -1,26 +1,22 @@
 -- What `clap` makes of the arguments of `show` and of `list`.
-use Rattle.std.proofs.Common.{◌≡◌, ◌⊎◌, ◌<◌, ◌+◌, ◌||◌, ◌∙◌, ℕ, List, [], ◌∷◌, ◌++◌, Option, None, Some, length, true, false}
+use Rattle.std.proofs.Common.{◌≡◌, ◌⊎◌, ◌<◌, ◌+◌, ℕ, List, [], ◌∷◌, Option, None, Some, length, true, false}
 use Rattle.std.proofs.Common.{ap, subst, inl, inr, arith, codes, is_some, lit<, refl, sym}
-use Rattle.std.specs.List.{All, slice_index_or}
-use Rattle.std.specs.Prelude.{◌^◌, Result, pos, zero, suc}
-use Rattle.std.specs.Str.{bytes_eq}
+use Rattle.std.specs.List.{slice_index_or}
+use Rattle.std.specs.Prelude.{◌^◌, Result, zero, suc}
 use Rattle.std.specs.Str.Parse.{ParsesUnsigned}
-use Rattle.std.proofs.lemmas.List.{append-nil, append_assoc}
-use Rattle.std.proofs.lemmas.List.Elements.{All-nil}
-use Rattle.clap.specs.Built.{AddsArg, AddsInTurn, FitsChain, HasDistinctIds, IsParsedFrom, IsPlain, IsPlainArg, SameRules, TakesValue}
+use Rattle.clap.specs.Built.{AddsArg, FitsChain, HasDistinctIds, IsParsedFrom, TakesValue}
 use Rattle.clap.specs.Words.{ReadsOne, Text, args_of, first_value, found_of, groups_of, one_text, rule_of, without_minus}
 use Rattle.clap.specs.declared.builder.arg.Arg.{Arg}
 use Rattle.clap.specs.declared.builder.command.Command.{Command as Parser}
 use Rattle.clap.specs.declared.builder.command.Command.TheViews.{out-Command as fields_of}
-use Rattle.clap.specs.declared.builder.value_parser.ValueParser.TheVariants.{Signed}
 use Rattle.clap.specs.declared.parser.matches.ArgMatches.{ArgMatches}
 use Rattle.clap.specs.declared.parser.matches.Found.{Found}
-use Rattle.clap.proofs.CallerLemmas.{added_plain, required_in_chain}
+use Rattle.clap.proofs.CallerLemmas.{required_in_chain}
 use Rattle.clap.proofs.CallerReads.{signed_reads}
 use Rattle.command_words.specs.Command.{AsksForList, AsksForView, IsMadeOf, IsTold, PassesIn, PassesNumber}
-use Rattle.command_words.specs.Command.{file_rule, folder_rule, from_rule, json_rule, page_rule, to_rule, txn_rule}
+use Rattle.command_words.specs.Command.{folder_rule, json_rule}
 use Rattle.command_words.proofs.ClapLemmas.{is_read}
-use Rattle.command_words.proofs.OptionalLemmas.{passed_if_given}
+use Rattle.command_words.proofs.ChainLemmas.{number_in_chain}
 use Rattle.command_words.proofs.RequiredLemmas.{same_length}
 
 -- ids whose lengths rise by one from place to place are all apart
@@ -31,71 +27,6 @@ rising_apart xs least long j k d e lj lk same =
   where
     same_place : (j k least a b : ℕ) → a ≡ j + least → b ≡ k + least → a ≡ b → j ≡ k
     same_place j k least a b at-j at-k equal = omega arith
-
--- ---- what a chain of arguments keeps
-
-all_rest : (x : Arg) (xs : List Arg) → All FitsChain (x ∷ xs) → All FitsChain xs
-all_rest x xs h = λ k d lt. h (suc k) d (omega arith)
-
-abbrev KeepsRules : List Arg → List Arg → Type 0
-KeepsRules xs ys = (length ys ≡ length xs)
-    × ((k : ℕ) (e g : Arg) → k < length xs → SameRules (slice_index_or xs k e) (slice_index_or ys k g))
-
-one_more : (x y : Arg) (xs ys : List Arg) → SameRules x y
-    → ((k : ℕ) (e g : Arg) → k < length xs → SameRules (slice_index_or xs k e) (slice_index_or ys k g))
-    → (k : ℕ) (e g : Arg) → k < length (x ∷ xs) → SameRules (slice_index_or (x ∷ xs) k e) (slice_index_or (y ∷ ys) k g)
-one_more x y xs ys r rest zero e g lt = r
-one_more x y xs ys r rest (suc n) e g lt = rest n e g (omega arith)
-
-chain_keeps : (c d : Parser) (xs : List Arg) → AddsInTurn AddsArg c xs d → All FitsChain xs → IsPlain c
-    → (fields_of c).has_globals ≡ false
-    → (ys : List Arg) × (args_of d ≡ args_of c ++ ys) × KeepsRules xs ys × IsPlain d × ((fields_of d).has_globals ≡ false)
-chain_keeps c d [] h all plain globals =
-    ([], rw h (sym (append-nil _)), (refl, (λ k e f lt. absurd (omega arith))), rw (← h) plain, rw (← h) globals)
-chain_keeps c d (x ∷ xs) h all plain globals =
-    let added = h.1 in
-    let fit = all 0 x (omega arith) in
-    let plain2 = added_plain c h.0 x added plain fit.0 in
-    let globals2 = added.globals ∙ (ap (λ b. b || x.global) globals ∙ ap (λ b. false || b) fit.1) in
-    let f = chain_keeps h.0 d xs h.2 (all_rest x xs all) plain2 globals2 in (
-      added.arg ∷ f.0,
-      f.1 ∙ (ap (λ l. l ++ f.0) added.args ∙ append_assoc (args_of c) (added.arg ∷ []) f.0),
-      (ap suc f.2.0, one_more x added.arg xs f.0 added.rules f.2.1),
-      f.3,
-      f.4,
-    )
-
--- a number of a chain that may be left out has no text, or one that clap let through
-number_in_chain : (low high : ℕ) (start cmd : Parser) (xs : List Arg) (k : ℕ) (d : Arg) (m : ArgMatches)
-    → AddsInTurn AddsArg start xs cmd → args_of start ≡ [] → groups_of start ≡ []
-    → (fields_of start).has_globals ≡ false → All FitsChain xs → HasDistinctIds xs → k < length xs
-    → (slice_index_or xs k d).value_parser ≡ Some (Signed (pos low) (pos high)) → IsParsedFrom cmd m
-    → (one_text (found_of m) (slice_index_or xs k d).id.now ≡ None)
-    ⊎ PassesIn low high (found_of m) (slice_index_or xs k d).id.now
-number_in_chain low high start cmd xs k d m chain args groups globals all distinct lt parser p =
-    let start-plain : IsPlain start = (subst (All IsPlainArg) (sym args) (All-nil IsPlainArg), groups) in
-    let f = chain_keeps start cmd xs chain all start-plain globals in
-    let list : args_of cmd ≡ f.0 = f.1 ∙ ap (λ l. l ++ f.0) args in
-    let a = slice_index_or xs k d in
-    let b = slice_index_or (args_of cmd) k d in
-    let elem : b ≡ slice_index_or f.0 k d = ap (λ l. slice_index_or l k d) list in
-    let rules = f.2.1 k d d lt in
-    let fit = all k d lt in
-    let len : length (args_of cmd) ≡ length xs = ap length list ∙ f.2.0 in
-    let in-cmd : k < length (args_of cmd) = omega arith in
-    let same-id : b.id ≡ a.id = ap (λ x. x.id) elem ∙ rules.id in
-    let same-now : b.id.now ≡ a.id.now = ap (λ x. x.now) same-id in
-    let only : (j : ℕ) (e : Arg) → j < length (args_of cmd) → bytes_eq (slice_index_or (args_of cmd) j e).id.now b.id.now ≡ true → j ≡ k =
-    λ j e low same.
-    let in-xs : j < length xs = omega arith in
-    let there : (slice_index_or (args_of cmd) j e).id ≡ (slice_index_or xs j e).id =
-    ap (λ x. x.id) (ap (λ l. slice_index_or l j e) list) ∙ (f.2.1 j e e in-xs).id in
-    distinct j k d e in-xs lt (rw (← ap (λ x. x.now) there, ← same-now) same) in
-    subst (λ id. (one_text (found_of m) id ≡ None) ⊎ PassesIn low high (found_of m) id) same-now
-    (passed_if_given low high cmd m p f.3 f.4 k d in-cmd only
-    (λ empty. fit.2 (sym same-now ∙ empty))
-    (λ auto. fit.3 (elim auto [ inl h ↦ inl (sym same-now ∙ h) | inr h ↦ inr (sym same-now ∙ h) ]))
-    (ap (λ x. x.value_parser) elem ∙ rules.parser (Signed (pos low) (pos high)) parser))
 
 -- ---- `show`
 

@@ -23,7 +23,7 @@ use Rattle.strsim.specs.Edits.{levenshtein_row}
 use Rattle.command_words.specs.declared.command.Command.{Command}
 use Rattle.command_words.specs.declared.command.Command.TheVariants.{Audit, ListFolder, Open}
 use Rattle.command_words.specs.declared.command.Command.TheVariants.{Redo, RedoInto}
-use Rattle.command_words.specs.declared.command.Command.TheVariants.{Restore, Run, Show}
+use Rattle.command_words.specs.declared.command.Command.TheVariants.{Restore, Run, Show, Version}
 use Rattle.command_words.specs.declared.command.UsageFault.{UsageFault}
 use Rattle.command_words.specs.declared.command.UsageFault.TheVariants.{BadArguments, HelpAsked}
 use Rattle.command_words.specs.declared.command.UsageFault.TheVariants.{MisspelledCommand}
@@ -44,9 +44,17 @@ output_rule = record (new_rule (codes "into")) {
   value_names = 1;
 }
 
--- `redo -o FILE`
+-- outputs may replace files that are kept else
+abbrev pub force_rule : Rule
+force_rule = record (new_rule (codes "with_force")) {
+  long = Some (codes "force");
+  action = Some SetTrue;
+}
+
+-- `redo -o FILE [--force]`
 abbrev pub redo_into_app : App
-redo_into_app = with_rule (new_app (codes "redo")) (record output_rule { required = true })
+redo_into_app = with_rule
+    (with_rule (new_app (codes "redo")) (record output_rule { required = true })) force_rule
 
 -- a number from 1 to 65,536
 abbrev pub count_parser : ValueParser
@@ -82,11 +90,11 @@ strict_rule = record (new_rule (codes "is_strict")) {
   action = Some SetTrue;
 }
 
--- `run --pages N [--frames B] [--save FOLDER] [--strict]`
+-- `run --pages N [--frames B] [--save FOLDER] [--strict] [--force]`
 abbrev pub run_app : App
-run_app = with_rule
+run_app = with_rule (with_rule
     (with_rule (with_rule (with_rule (new_app (codes "run")) pages_rule) frames_rule) save_rule)
-    strict_rule
+    strict_rule) force_rule
 
 abbrev pub log_rule : Rule
 log_rule = record (new_rule (codes "log")) {
@@ -117,13 +125,13 @@ log_output_rule = record (new_rule (codes "log_into")) {
   value_names = 1;
 }
 
--- `restore [-o FILE] [--log-out FILE] LOG MASTER [ARCHIVE]...`
+-- `restore [-o FILE] [--log-out FILE] [--force] LOG MASTER [ARCHIVE]...`
 abbrev pub restore_app : App
-restore_app = with_rule
+restore_app = with_rule (with_rule
     (with_rule (with_rule (with_rule (with_rule (new_app (codes "restore")) log_rule) master_rule)
     archive_rule)
     output_rule)
-    log_output_rule
+    log_output_rule) force_rule
 
 abbrev pub audited_master_rule : Rule
 audited_master_rule = record (new_rule (codes "master")) {
@@ -160,10 +168,19 @@ told_pages_rule = record (new_rule (codes "pages")) {
   parser = Some count_parser;
 }
 
--- `open FOLDER [--pages N] [--frames B]`
+-- a damaged log may be cut where it is right to
+abbrev pub salvage_rule : Rule
+salvage_rule = record (new_rule (codes "is_salvage")) {
+  long = Some (codes "salvage");
+  action = Some SetTrue;
+}
+
+-- `open FOLDER [--pages N] [--frames B] [--salvage] [--strict]`
 abbrev pub open_app : App
-open_app = with_rule
-    (with_rule (with_rule (new_app (codes "open")) folder_rule) told_pages_rule) frames_rule
+open_app = with_rule (with_rule
+    (with_rule (with_rule (with_rule (new_app (codes "open")) folder_rule) told_pages_rule)
+    frames_rule)
+    salvage_rule) strict_rule
 
 -- the file that is shown
 abbrev pub file_rule : Rule
@@ -252,27 +269,36 @@ abbrev pub IsFlag : Option Text → Bool → Type 0
 IsFlag text given = (text ≡ None → given ≡ false) × (text ≡ Some (codes "true") → given ≡ true)
     × (text ≡ Some (codes "false") → given ≡ false)
 
+-- the first word asks for the program's version
+abbrev pub AsksForVersion : Text → Type 0
+AsksForVersion name = (name ≡ codes "--version") ⊎ (name ≡ codes "-V")
+
 -- the words give this command, with the values that clap matches after its name
 abbrev pub Gives : List Text → Command → Type 0
 Gives words Redo = IsTakenBy words redo_app
-Gives words (RedoInto output) = IsTakenBy words redo_into_app
-    × (first_of (codes "into") (matches_of redo_into_app words) ≡ Some output.now)
-Gives words (Run pages frames save strict) = let rows = matches_of run_app words in
+Gives words (RedoInto output force) = let rows = matches_of redo_into_app words in
+    IsTakenBy words redo_into_app × (first_of (codes "into") rows ≡ Some output.now)
+    × IsFlag (one_of (codes "with_force") rows) force
+Gives words (Run pages frames save strict force) = let rows = matches_of run_app words in
     IsTakenBy words run_app × IsRead (one_of (codes "pages") rows) pages
     × IsFramesRead (one_of (codes "frames") rows) frames
     × (option_map (λ name. name.now) save ≡ first_of (codes "save") rows)
     × IsFlag (one_of (codes "is_strict") rows) strict
-Gives words (Open folder pages frames) = let rows = matches_of open_app words in
+    × IsFlag (one_of (codes "with_force") rows) force
+Gives words (Open folder pages frames salvage strict) = let rows = matches_of open_app words in
     IsTakenBy words open_app × (first_of (codes "dir") rows ≡ Some folder.now)
     × IsTold (one_of (codes "pages") rows) pages
     × IsFramesRead (one_of (codes "frames") rows) frames
-Gives words (Restore log master archives output log_output) =
+    × IsFlag (one_of (codes "is_salvage") rows) salvage
+    × IsFlag (one_of (codes "is_strict") rows) strict
+Gives words (Restore log master archives output log_output force) =
     let rows = matches_of restore_app words in
     IsTakenBy words restore_app × (first_of (codes "log") rows ≡ Some log.now)
     × (first_of (codes "master") rows ≡ Some master.now)
     × (map (λ name. name.now) archives.items ≡ unwrap_or (all_of (codes "archive") rows) [])
     × (option_map (λ name. name.now) output ≡ first_of (codes "into") rows)
     × (option_map (λ name. name.now) log_output ≡ first_of (codes "log_into") rows)
+    × IsFlag (one_of (codes "with_force") rows) force
 Gives words (Audit log archives master all) = let rows = matches_of audit_app words in
     IsTakenBy words audit_app × (first_of (codes "log") rows ≡ Some log.now)
     × (map (λ name. name.now) archives.items ≡ unwrap_or (all_of (codes "archive") rows) [])
@@ -286,19 +312,21 @@ Gives words (Show file from to txn page json) = let rows = matches_of show_app w
 Gives words (ListFolder folder json) = let rows = matches_of list_app words in
     IsTakenBy words list_app × (first_of (codes "dir") rows ≡ Some folder.now)
     × IsFlag (one_of (codes "as_json") rows) json
+Gives words Version = IsSomeAnd (slice_get words 0) AsksForVersion
 
 -- a volume has 1 to 65,536 pages, and 1 to 65,536 frames are there for them
 abbrev pub HasCounts : Command → Type 0
 HasCounts Redo = Unit {0}
-HasCounts (RedoInto output) = Unit {0}
-HasCounts (Run pages frames save strict) =
+HasCounts (RedoInto output force) = Unit {0}
+HasCounts (Run pages frames save strict force) =
     (1 ≤ pages) × (pages ≤ 65536) × (1 ≤ frames) × (frames ≤ 65536)
-HasCounts (Open folder pages frames) =
+HasCounts (Open folder pages frames salvage strict) =
     IfSome pages (λ n. (1 ≤ n) × (n ≤ 65536)) × (1 ≤ frames) × (frames ≤ 65536)
-HasCounts (Restore log master archives output log_output) = Unit {0}
+HasCounts (Restore log master archives output log_output force) = Unit {0}
 HasCounts (Audit log archives master all) = Unit {0}
 HasCounts (Show file from to txn page json) = Unit {0}
 HasCounts (ListFolder folder json) = Unit {0}
+HasCounts Version = Unit {0}
 
 -- clap builds the command of these arguments, one after another
 pub record IsMadeOf (command : Parser) (arguments : List Arg) : Type 0 where
@@ -310,47 +338,55 @@ pub record IsMadeOf (command : Parser) (arguments : List Arg) : Type 0 where
   pub chain : AddsInTurn AddsArg start arguments command
   pub fit : All FitsChain arguments
 
--- the number of pages is required, and then the number of frames, a folder and a flag may be told
+-- the number of pages is required, and then that of frames, a folder and two flags may be told
 pub record AsksForPages (command : Parser) : Type 0 where
   pub pages : Arg
   pub frames : Arg
   pub save : Arg
   pub strict : Arg
-  pub made : IsMadeOf command (pages ∷ frames ∷ save ∷ strict ∷ [])
+  pub force : Arg
+  pub made : IsMadeOf command (pages ∷ frames ∷ save ∷ strict ∷ force ∷ [])
   pub pages_is : rule_of pages ≡ pages_rule
   pub frames_is : rule_of frames ≡ frames_rule
   pub save_is : rule_of save ≡ save_rule
   pub strict_is : rule_of strict ≡ strict_rule
+  pub force_is : rule_of force ≡ force_rule
   pub required : TakesValue pages
   pub pages_parsed : pages.value_parser ≡ Some count_parser
   pub frames_parsed : frames.value_parser ≡ Some count_parser
 
--- a folder is required, and then the number of pages and the number of frames may be told
+-- a folder is required, and then the numbers of pages and of frames, and two flags, may be told
 pub record AsksForFolder (command : Parser) : Type 0 where
   pub folder : Arg
   pub pages : Arg
   pub frames : Arg
-  pub made : IsMadeOf command (folder ∷ pages ∷ frames ∷ [])
+  pub salvage : Arg
+  pub strict : Arg
+  pub made : IsMadeOf command (folder ∷ pages ∷ frames ∷ salvage ∷ strict ∷ [])
   pub folder_is : rule_of folder ≡ folder_rule
   pub pages_is : rule_of pages ≡ told_pages_rule
   pub frames_is : rule_of frames ≡ frames_rule
+  pub salvage_is : rule_of salvage ≡ salvage_rule
+  pub strict_is : rule_of strict ≡ strict_rule
   pub required : TakesValue folder
   pub pages_parsed : pages.value_parser ≡ Some count_parser
   pub frames_parsed : frames.value_parser ≡ Some count_parser
 
--- two files are required, and then more may be named, and one for each output
+-- two files are required, and then more may be named, one for each output, and a flag
 pub record AsksForFiles (command : Parser) : Type 0 where
   pub log : Arg
   pub master : Arg
   pub archive : Arg
   pub output : Arg
   pub log_output : Arg
-  pub made : IsMadeOf command (log ∷ master ∷ archive ∷ output ∷ log_output ∷ [])
+  pub force : Arg
+  pub made : IsMadeOf command (log ∷ master ∷ archive ∷ output ∷ log_output ∷ force ∷ [])
   pub log_is : rule_of log ≡ log_rule
   pub master_is : rule_of master ≡ master_rule
   pub archive_is : rule_of archive ≡ archive_rule
   pub output_is : rule_of output ≡ output_rule
   pub log_output_is : rule_of log_output ≡ log_output_rule
+  pub force_is : rule_of force ≡ force_rule
   pub log_required : TakesValue log
   pub master_required : TakesValue master
 
@@ -397,11 +433,13 @@ pub record AsksForList (command : Parser) : Type 0 where
   pub json_is : rule_of json ≡ json_rule
   pub required : TakesValue folder
 
--- an output is required
+-- an output is required, and then a flag may be told
 pub record AsksForOutput (command : Parser) : Type 0 where
   pub output : Arg
-  pub made : IsMadeOf command (output ∷ [])
+  pub force : Arg
+  pub made : IsMadeOf command (output ∷ force ∷ [])
   pub output_is : rule_of output ≡ record output_rule { required = true }
+  pub force_is : rule_of force ≡ force_rule
   pub output_required : TakesValue output
 
 -- what was found has a number of this name in these bounds, and clap let it through

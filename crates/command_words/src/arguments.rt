@@ -6,7 +6,8 @@ ghost use Rattle.clap.specs.Words.{rule_of};
 ghost use Rattle.command_words.specs.Command.{AsksForFiles, AsksForLog, AsksForOutput};
 ghost use Rattle.command_words.specs.Command.{AsksForPages, ExplainsRead, Names, PassesFrames};
 ghost use Rattle.command_words.specs.Command.{PassesPages, all_rule, archive_rule, audit_app};
-ghost use Rattle.command_words.specs.Command.{audited_master_rule, count_parser, frames_rule};
+ghost use Rattle.command_words.specs.Command.{audited_master_rule, count_parser, force_rule};
+ghost use Rattle.command_words.specs.Command.{frames_rule};
 ghost use Rattle.command_words.specs.Command.{log_output_rule, log_rule, master_rule, output_rule};
 ghost use Rattle.command_words.specs.Command.{pages_rule, redo_app, redo_into_app, restore_app};
 ghost use Rattle.command_words.specs.Command.{run_app, save_rule, strict_rule};
@@ -106,13 +107,14 @@ pub(crate) fn audit_matches<'a, S: AsStr>(
 
 // The usage of each shows the program's name before the command's, and what it reads and writes.
 
-const REDO_USAGE: &str = "imgcopy redo < LOG > VOLUME\n       imgcopy redo -o <FILE> < LOG";
+const REDO_USAGE: &str =
+    "imgcopy redo < LOG > VOLUME\n       imgcopy redo -o <FILE> [--force] < LOG";
 
 const RUN_USAGE: &str = "imgcopy run --pages <N> [OPTIONS] < SCRIPT";
 
 const RESTORE_USAGE: &str =
-    "imgcopy restore [--log-out <FILE>] <LOG> <MASTER> <ARCHIVE>... > VOLUME\n       \
-    imgcopy restore -o <FILE> [--log-out <FILE>] <LOG> <MASTER> <ARCHIVE>...";
+    "imgcopy restore [--log-out <FILE> [--force]] <LOG> <MASTER> <ARCHIVE>... > VOLUME\n       \
+    imgcopy restore -o <FILE> [--log-out <FILE>] [--force] <LOG> <MASTER> <ARCHIVE>...";
 
 const AUDIT_USAGE: &str = "imgcopy audit [OPTIONS] <LOG> <ARCHIVE>...";
 
@@ -132,7 +134,8 @@ fn redo_into_command<'a>(alloc: Global) -> Result<clap::Command<'a>, AllocError>
         .about("Write the volume that the log on standard input makes")
         .override_usage(REDO_USAGE)
         .bin_name("imgcopy redo")?
-        .arg(required_output_arg(alloc))
+        .arg(required_output_arg(alloc))?
+        .arg(force_arg(alloc))
 }
 
 fn run_command<'a>(alloc: Global) -> Result<clap::Command<'a>, AllocError>
@@ -146,7 +149,8 @@ fn run_command<'a>(alloc: Global) -> Result<clap::Command<'a>, AllocError>
         .arg(pages_arg(alloc))?
         .arg(frames_arg(alloc))?
         .arg(save_arg(alloc))?
-        .arg(strict_arg(alloc))
+        .arg(strict_arg(alloc))?
+        .arg(force_arg(alloc))
 }
 
 fn restore_command<'a>(alloc: Global) -> Result<clap::Command<'a>, AllocError>
@@ -161,7 +165,8 @@ fn restore_command<'a>(alloc: Global) -> Result<clap::Command<'a>, AllocError>
         .arg(master_arg(alloc))?
         .arg(archive_arg(alloc))?
         .arg(output_arg(alloc))?
-        .arg(log_output_arg(alloc))
+        .arg(log_output_arg(alloc))?
+        .arg(force_arg(alloc))
 }
 
 fn audit_command<'a>(alloc: Global) -> Result<clap::Command<'a>, AllocError>
@@ -217,13 +222,23 @@ fn save_arg<'a>(alloc: Global) -> Arg<'a>
         .action(ArgAction::Set)
 }
 
-fn strict_arg<'a>(alloc: Global) -> Arg<'a>
+pub(crate) fn strict_arg<'a>(alloc: Global) -> Arg<'a>
     ensures rule { rule_of result ≡ strict_rule }
     ensures fits { FitsChain result }
 {
     Arg::new(alloc, "is_strict")
         .long("strict")
         .help("End with status 1 if a call was refused, and say so")
+        .action(ArgAction::SetTrue)
+}
+
+fn force_arg<'a>(alloc: Global) -> Arg<'a>
+    ensures rule { rule_of result ≡ force_rule }
+    ensures fits { FitsChain result }
+{
+    Arg::new(alloc, "with_force")
+        .long("force")
+        .help("Let an output replace a log, a master record, an image copy or an input")
         .action(ArgAction::SetTrue)
 }
 

@@ -1,10 +1,11 @@
 //! The command line: the first word names a command, and `clap` reads the words after it.
 ghost use Rattle.std.specs.Prelude.{◌≡◌, ◌≢◌, ◌≤◌, ◌↔◌, ◌⊎◌, ◌∷◌, IfErr, IfOk, IsTrue, MatchOption};
-ghost use Rattle.std.specs.Prelude.{MatchResult, Some, [], codes};
-ghost use Rattle.std.specs.Prelude.{is_some, map, option_map, true, unwrap_or};
+ghost use Rattle.std.specs.Prelude.{IsSomeAnd, MatchResult, Ok, Some, [], codes};
+ghost use Rattle.std.specs.Prelude.{is_some, map, option_map, slice_get, true, unwrap_or};
 ghost use Rattle.clap.specs.Words.{fault_of, first_value, found_of, kind_of, matched_of, one_of};
 ghost use Rattle.clap.specs.Words.{raw_values, rows_of};
-ghost use Rattle.command_words.specs.Command.{Explains, Gives, HasCounts, IsRead, IsRedo, IsTaken};
+ghost use Rattle.command_words.specs.Command.{AsksForVersion, Explains, Gives, HasCounts, IsRead};
+ghost use Rattle.command_words.specs.Command.{IsRedo, IsTaken};
 ghost use Rattle.command_words.specs.Command.{ExplainsRead, ExplainsUnknown, IsFar, IsFramesRead};
 ghost use Rattle.command_words.specs.Command.{IsNear, IsUnknown, Names, PassesFrames, PassesPages};
 ghost use Rattle.command_words.specs.Command.{audit_app, redo_app, redo_into_app, restore_app};
@@ -31,9 +32,11 @@ use thiserror::Error;
 pub enum Command<'a> {
     /// To redo the log on standard input.
     Redo,
-    /// The same, and to put the volume into this file.
+    /// The same, and to put the volume into this file. With force it replaces a file that is kept
+    /// else, as in the other commands that write files.
     RedoInto {
         output: &'a str,
+        force: bool,
     },
     /// To play the script on standard input on a volume of so many pages, with memory for so many
     /// of them at a time, each 1 to 65,536. The log, the master record and the copies go into the
@@ -43,13 +46,17 @@ pub enum Command<'a> {
         frames: u32,
         save: Option<&'a str>,
         strict: bool,
+        force: bool,
     },
     /// To open the database in this folder, with memory for so many pages at a time. A new one has
-    /// so many pages. Each is 1 to 65,536.
+    /// so many pages. Each is 1 to 65,536. With salvage a damaged log may be cut where it is right
+    /// to, and what is cut off is put aside. If it is strict, a refused call is told at the end.
     Open {
         folder: &'a str,
         pages: Option<u32>,
         frames: u32,
+        salvage: bool,
+        strict: bool,
     },
     /// To restore a volume of these files: the log, its master record, and the archives of a chain
     /// of copies, the full one first. The volume goes into the output, if one is named, and so does
@@ -60,6 +67,7 @@ pub enum Command<'a> {
         archives: Vec<&'a str>,
         output: Option<&'a str>,
         log_output: Option<&'a str>,
+        force: bool,
     },
     /// To audit a chain of copies against a log: the log, and the archives of the chain, the full
     /// one first, and then the master record, if one is named. All unsound pages are told, or the
@@ -87,6 +95,8 @@ pub enum Command<'a> {
         folder: &'a str,
         json: bool,
     },
+    /// To tell which version of the program this is.
+    Version,
 }
 
 /// As many frames as a volume has pages at most, so that no page has to leave memory.
@@ -108,6 +118,10 @@ Commands:
   show     Print what a log, a master record, an image copy or a volume has
   list     Print which copies a folder has, and what restores of them would do
   help     Print this help, or that of a command
+
+Options:
+  -h, --help     Print this help
+  -V, --version  Print the version
 
 For the arguments of a command, try 'imgcopy help <COMMAND>'.
 This is imgcopy 0.2.0.
@@ -165,6 +179,9 @@ pub fn command_of<'a, S: AsStr>(
         IsTaken (map S.text words.now) → fault ≡ UsageFault.OutOfMemory) }
     ensures explained { IfErr result (Explains (map S.text words.now)) }
 
+    ensures version { IsSomeAnd (slice_get (map S.text words.now) 0) AsksForVersion →
+        result ≡ Ok Command.Version }
+
     // What the clauses above come to for `redo`, with no word of clap's.
     ensures redo { IsRedo (map S.text words.now) → MatchResult result
         (λ command. command ≡ Command.Redo) (λ fault. fault ≡ UsageFault.OutOfMemory) }
@@ -187,6 +204,7 @@ pub fn command_of<'a, S: AsStr>(
             None => Err(UsageFault::HelpAsked),
         },
         "--help" | "-h" => Err(UsageFault::HelpAsked),
+        "--version" | "-V" => Ok(Command::Version),
         other => Err(fault_of_unknown(alloc, other)),
     }
 }
@@ -280,7 +298,8 @@ fn redo_into_of<'a, S: AsStr>(alloc: Global, words: &'a [S]) -> Result<Command<'
 {
     let matches = redo_into_matches(alloc, words)?;
     let output = value_in(&matches, "into");
-    Ok(Command::RedoInto { output })
+    let force = matches.get_flag("with_force");
+    Ok(Command::RedoInto { output, force })
 }
 
 fn redo_alone_of<'a, S: AsStr>(alloc: Global, words: &'a [S]) -> Result<Command<'a>, UsageFault<'a>>
@@ -309,11 +328,13 @@ fn run_of<'a, S: AsStr>(alloc: Global, words: &'a [S]) -> Result<Command<'a>, Us
     let frames = frames_in(&matches);
     let save = matches.get_str("save");
     let strict = matches.get_flag("is_strict");
+    let force = matches.get_flag("with_force");
     Ok(Command::Run {
         pages,
         frames,
         save,
         strict,
+        force,
     })
 }
 
@@ -351,12 +372,14 @@ fn restore_of<'a, S: AsStr>(alloc: Global, words: &'a [S]) -> Result<Command<'a>
     let archives = archives_in(alloc, &matches)?;
     let output = matches.get_str("into");
     let log_output = matches.get_str("log_into");
+    let force = matches.get_flag("with_force");
     Ok(Command::Restore {
         log,
         master,
         archives,
         output,
         log_output,
+        force,
     })
 }
 

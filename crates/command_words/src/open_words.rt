@@ -7,11 +7,11 @@ ghost use Rattle.clap.specs.Words.{rows_of, rule_of};
 ghost use Rattle.command_words.specs.Command.{AsksForFolder, ExplainsRead, Gives, HasCounts};
 ghost use Rattle.command_words.specs.Command.{IsTold, Names, PassesFrames, PassesToldPages};
 ghost use Rattle.command_words.specs.Command.{count_parser, folder_rule, open_app};
-ghost use Rattle.command_words.specs.Command.{told_pages_rule};
+ghost use Rattle.command_words.specs.Command.{salvage_rule, told_pages_rule};
 ghost use Rattle.command_words.specs.declared.command.Command.TheVariants as command;
 ghost use Rattle.command_words.specs.declared.command.UsageFault.TheVariants.{OutOfMemory};
 
-use crate::arguments::frames_arg;
+use crate::arguments::{frames_arg, strict_arg};
 use crate::command::{Command, UsageFault, frames_in, value_in};
 use clap::{Arg, ArgAction, ArgMatches};
 use std::alloc::{AllocError, Global};
@@ -36,10 +36,14 @@ pub(crate) fn open_of<'a, S: AsStr>(
     let folder = value_in(&matches, "dir");
     let pages = told_pages_in(&matches);
     let frames = frames_in(&matches);
+    let salvage = matches.get_flag("is_salvage");
+    let strict = matches.get_flag("is_strict");
     Ok(Command::Open {
         folder,
         pages,
         frames,
+        salvage,
+        strict,
     })
 }
 
@@ -73,7 +77,9 @@ fn open_command<'a>(alloc: Global) -> Result<clap::Command<'a>, AllocError>
         .bin_name("imgcopy open")?
         .arg(folder_arg(alloc))?
         .arg(told_pages_arg(alloc))?
-        .arg(frames_arg(alloc))
+        .arg(frames_arg(alloc))?
+        .arg(salvage_arg(alloc))?
+        .arg(strict_arg(alloc))
 }
 
 pub(crate) fn folder_arg<'a>(alloc: Global) -> Arg<'a>
@@ -99,6 +105,16 @@ fn told_pages_arg<'a>(alloc: Global) -> Arg<'a>
         .help("How many pages a new database has, 1 to 65536; it is needed there")
         .action(ArgAction::Set)
         .value_parser(clap::value_parser!(u32).range(1..=65_536))
+}
+
+fn salvage_arg<'a>(alloc: Global) -> Arg<'a>
+    ensures rule { rule_of result ≡ salvage_rule }
+    ensures fits { FitsChain result }
+{
+    Arg::new(alloc, "is_salvage")
+        .long("salvage")
+        .help("Go on from a damaged log as far as it is right, and put the rest aside")
+        .action(ArgAction::SetTrue)
 }
 
 /// How many pages a new database is to have, if that was told.

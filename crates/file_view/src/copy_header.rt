@@ -1,9 +1,11 @@
 //! The header of an archive. The crate of archives decodes them for itself alone.
 
+ghost use Rattle.std.specs.Prelude.{◌≡◌, ◌+◌, ◌*◌};
+
 use copy_vault::MAX_COPIES;
 use log_records::HEADER_BYTES;
 use page_core::field::{u32_at, u64_at};
-use page_core::{Format, LSN_STEP, Lsn, MAX_PAGES};
+use page_core::{Format, LSN_STEP, Lsn, MAX_PAGES, PAGE_BYTES};
 
 /// What the header of an archive says. Its ids are plain numbers, since headers are kept in a
 /// `Vec`.
@@ -21,6 +23,15 @@ pub struct ArchiveHeader {
     pub redo: Lsn,
     /// How many pages follow.
     pub taken: u32,
+}
+
+impl ArchiveHeader {
+    /// How many bytes the file of an archive with this header has.
+    pub fn bytes(&self) -> u64
+        ensures { result ≡ 64 + 512 * self.now.taken }
+    {
+        HEADER_BYTES as u64 + PAGE_BYTES as u64 * self.taken as u64
+    }
 }
 
 /// The header in front of these bytes, if an archive has it.

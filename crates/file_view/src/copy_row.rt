@@ -1,14 +1,42 @@
 //! The copies of a folder, and which of their chains are whole.
 
 use crate::copy_header::ArchiveHeader;
+use page_core::{FaultName, Lsn};
 use std::alloc::{AllocError, Global};
+use std::fmt;
+
+/// What is wrong with a copy, by its header, its length and the log beside it. Its text stands in
+/// the copy's line.
+#[derive(Clone, Copy, Debug, PartialEq, Eq)]
+pub enum CopyFlaw {
+    /// Its file is shorter or longer than its header says.
+    Length,
+    /// Its redo point is not below the log's end.
+    Redo,
+    /// The checkpoint that it notes does not begin below the log's end.
+    Begin,
+}
+
+impl fmt::Display for CopyFlaw {
+    fn fmt<W: fmt::Write>(&self, f: &mut fmt::Formatter<W>) -> fmt::Result {
+        match self {
+            CopyFlaw::Length => write!(f, "{}", FaultName::CountDiffers),
+            CopyFlaw::Redo => write!(f, "{}", FaultName::RedoBeyondLog),
+            CopyFlaw::Begin => f.write_str("begins past the log"),
+        }
+    }
+}
 
 /// A copy of a folder.
 #[derive(Clone, Copy)]
 pub struct CopyRow {
     pub header: ArchiveHeader,
-    /// The nearest copy below this one of which there is no archive. Without one the chain is
-    /// whole.
+    /// How many bytes its file has.
+    pub bytes: u64,
+    /// What is wrong with it itself.
+    pub flaw: Option<CopyFlaw>,
+    /// The nearest copy below this one of which there is no archive, or one with a flaw. Without
+    /// one, and without a flaw, the chain is whole.
     pub missing: Option<u32>,
 }
 
@@ -16,25 +44,34 @@ pub struct CopyRow {
 #[derive(Drop)]
 pub struct Rows {
     rows: Vec<CopyRow>,
+    /// The end of the log beside them, if it is known.
+    end: Option<Lsn>,
 }
 
 impl Rows {
-    /// No copies yet.
-    pub fn new(alloc: Global) -> Rows {
+    /// No copies yet, beside a log that ends here.
+    pub fn new(alloc: Global, end: Option<Lsn>) -> Rows {
         Rows {
             rows: Vec::new(alloc),
+            end,
         }
     }
 
-    /// Notes the next copy. Its id has to be above those of the copies before it, as each parent is
-    /// below its child.
-    pub fn push(&mut self, header: ArchiveHeader) -> Result<(), AllocError> {
+    /// Notes the next copy, whose file has so many bytes. Its id has to be above those of the
+    /// copies before it, as each parent is below its child.
+    pub fn push(&mut self, header: ArchiveHeader, bytes: u64) -> Result<(), AllocError> {
         let missing = if header.parent == 0 {
             None
         } else {
             self.missing_at(header.parent)
         };
-        self.rows.push(CopyRow { header, missing })?;
+        let flaw = flaw_of(&header, bytes, self.end);
+        self.rows.push(CopyRow {
+            header,
+            bytes,
+            flaw,
+            missing,
+        })?;
         Ok(())
     }
 
@@ -43,13 +80,32 @@ impl Rows {
         &self.rows
     }
 
-    /// The nearest copy from this one down of which there is no archive.
+    /// The nearest copy from this one down of which there is no archive, or one with a flaw.
     fn missing_at(&self, id: u32) -> Option<u32> {
         for row in self.rows.as_slice() {
             if row.header.id == id {
-                return row.missing;
+                return if row.flaw.is_none() {
+                    row.missing
+                } else {
+                    Some(id)
+                };
             }
         }
         Some(id)
+    }
+}
+
+/// What is wrong with a copy, whose file has so many bytes, beside a log that ends here.
+fn flaw_of(header: &ArchiveHeader, bytes: u64, end: Option<Lsn>) -> Option<CopyFlaw> {
+    if bytes != header.bytes() {
+        return Some(CopyFlaw::Length);
+    }
+    let end = end?;
+    if header.redo >= end {
+        Some(CopyFlaw::Redo)
+    } else if header.begin >= end {
+        Some(CopyFlaw::Begin)
+    } else {
+        None
     }
 }

@@ -8,7 +8,8 @@ use std::fmt;
 /// What a file is. Its text is the first line that is shown of it.
 #[derive(Clone, Copy)]
 pub enum Head {
-    /// A log with this header, and whole places of so many records behind it.
+    /// A log whose volume has so many pages at its end, and whole places of so many records behind
+    /// its header.
     Log {
         format: Format,
         pages: u32,

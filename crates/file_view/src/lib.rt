@@ -18,7 +18,7 @@ mod summary;
 mod wanted;
 
 pub use copy_header::{ArchiveHeader, archive_header};
-pub use copy_row::{CopyRow, Rows};
+pub use copy_row::{CopyFlaw, CopyRow, Rows};
 pub use fault::ViewFault;
 pub use head::{Head, HeadJson};
 pub use input::read_file;

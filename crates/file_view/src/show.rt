@@ -65,14 +65,14 @@ fn show_log<W: Write>(
     let Some(header) = log_header(bytes) else {
         return Err(ViewFault::BadHeader);
     };
+    let mut input = bytes;
+    let front = read_front(alloc, &mut input)?;
     let head = Head::Log {
         format: header.format,
-        pages: header.pages,
+        pages: front.log().page_count(),
         records: (bytes.len().saturating_sub(HEADER_BYTES) / RECORD_BYTES) as u64,
     };
     put_head(&mut lines.text, form, head)?;
-    let mut input = bytes;
-    let front = read_front(alloc, &mut input)?;
     for record in front.log().records() {
         if wanted.takes(record) {
             put_record(&mut lines.text, form, record)?;

@@ -2,7 +2,7 @@
 
 ghost use Rattle.std.specs.Prelude.{◌≡◌, ◌-◌, ◌/◌};
 
-use crate::copy_row::{CopyRow, Rows};
+use crate::copy_row::{CopyFlaw, CopyRow, Rows};
 use crate::fault::ViewFault;
 use crate::head::{Head, HeaderJson};
 use crate::lines::Form;
@@ -11,7 +11,7 @@ use crate::show::put_head;
 use log_front::{Cut, FrontScan, scan_front};
 use log_records::{HEADER_BYTES, LogHeader, MAX_OPEN, RECORD_BYTES, log_header};
 use log_store::Scan;
-use page_core::{FaultName, Lsn, TxnNo};
+use page_core::{FaultName, LSN_STEP, Lsn, TxnNo};
 use std::alloc::{AllocError, Global};
 use txn_table::OpenTransactions;
 
@@ -19,6 +19,8 @@ use txn_table::OpenTransactions;
 #[derive(Clone, Copy)]
 pub struct LogFacts {
     pub header: LogHeader,
+    /// How many pages the volume has at its end.
+    pub pages: u32,
     pub summary: LogSummary,
     /// How many transactions are open at its end.
     pub open: usize,
@@ -26,6 +28,17 @@ pub struct LogFacts {
     pub pending: usize,
     /// Where and why its bytes were cut, if they were.
     pub cut: Option<Cut>,
+}
+
+impl LogFacts {
+    /// Where the log ends: the LSN that its next record would have.
+    pub fn end(&self) -> Lsn {
+        Lsn(
+            (self.summary.records as u64)
+                .saturating_add(1)
+                .saturating_mul(LSN_STEP),
+        )
+    }
 }
 
 /// Reads the bytes of a log, as far as they are one. `BadHeader` comes where no log begins so, and
@@ -40,9 +53,12 @@ pub fn facts_of(alloc: Global, bytes: &[u8]) -> Result<LogFacts, ViewFault> {
         sink: summary,
         history,
     } = scan;
+    // A volume has fewer than this may count.
+    let pages = u32::try_from(history.pages().len()).unwrap_or(u32::MAX);
     let table = history.into_open();
     Ok(LogFacts {
         header,
+        pages,
         summary,
         open: table.open_count(),
         pending: pending_in(&table),
@@ -87,7 +103,7 @@ pub fn put_log(
 ) -> Result<(), AllocError> {
     let head = Head::Log {
         format: log.header.format,
-        pages: log.header.pages,
+        pages: log.pages,
         records: log.summary.records as u64,
     };
     put_head(text, form, head)?;
@@ -95,31 +111,43 @@ pub fn put_log(
     put_point(text, form, log.summary.point)?;
     put_open(text, form, log)?;
     for row in rows.rows() {
-        if row.missing.is_none() {
+        if is_restorable(row) {
             put_restore(text, form, row, log)?;
         }
     }
     Ok(())
 }
 
+/// Whether a line says what a restore would do: what is wrong with the redo point is said there.
+fn is_restorable(row: &CopyRow) -> bool {
+    row.missing.is_none() && matches!(row.flaw, None | Some(CopyFlaw::Redo))
+}
+
 fn put_row(text: &mut String, form: Form, row: &CopyRow) -> Result<(), AllocError> {
-    let (header, missing) = (row.header, row.missing);
     match form {
         Form::Words => {
-            write!(text, "{header} ")?;
-            match missing {
-                Some(id) => writeln!(text, "lacks {id}"),
-                None => text.push_str("whole\n"),
+            let header = row.header;
+            match (row.flaw, row.missing) {
+                (Some(flaw), _) => writeln!(text, "{header} {flaw}"),
+                (None, Some(id)) => writeln!(text, "{header} lacks {id}"),
+                (None, None) => writeln!(text, "{header} whole"),
             }
         }
-        Form::Json => {
-            let header = HeaderJson(header);
-            write!(text, "{{\"file\":\"archive\",{header},\"lacks\":")?;
-            match missing {
-                Some(id) => writeln!(text, "{id}}}"),
-                None => text.push_str("null}\n"),
-            }
-        }
+        Form::Json => put_row_json(text, row),
+    }
+}
+
+/// The line of a copy as an object of JSON. Only what is wrong has the field `fault`.
+fn put_row_json(text: &mut String, row: &CopyRow) -> Result<(), AllocError> {
+    let header = HeaderJson(row.header);
+    write!(text, "{{\"file\":\"archive\",{header},\"lacks\":")?;
+    match row.missing {
+        Some(id) => write!(text, "{id}")?,
+        None => text.push_str("null")?,
+    }
+    match row.flaw {
+        Some(flaw) => writeln!(text, ",\"fault\":\"{flaw}\"}}"),
+        None => text.push_str("}\n"),
     }
 }
 

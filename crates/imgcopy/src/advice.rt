@@ -9,27 +9,22 @@ use copy_vault::{CopyId, MAX_COPIES};
 use event_script::{MAX_SCRIPT_BYTES, ScriptFault};
 use media_restore::RestoreFault;
 use saved_files::{SaveFault, SavedName};
-use script_advice::{BadLine, Shown};
+use script_advice::BadLine;
 use script_run::RunFault;
 use std::alloc::{AllocError, Global};
 use std::io::ErrorKind;
 use std::path::Path;
 use std::rt::Files;
 use std::{fs, io};
-use system_files::Notes;
-
-/// How many names of unfinished files are told.
-const MOST_TOLD: usize = 64;
+use system_files::{Escaped, Notes, SystemFolder};
 
 /// Names the file in which a restore from files met its fault, and says what is wrong with it, or
 /// why the system failed there. It is the one that was read last.
 pub fn tell_input(rt: &HostRuntime, names: &Named<'_>, fault: &RestoreFault, notes: &Notes) {
     let failed = match fault {
         // These are no fault of one file.
-        RestoreFault::OutOfMemory
-        | RestoreFault::LogFull
-        | RestoreFault::WriteFault(_)
-        | RestoreFault::ChainBroken(CopyId(0)) => return,
+        RestoreFault::OutOfMemory | RestoreFault::LogFull | RestoreFault::WriteFault(_) => return,
+        RestoreFault::ChainBroken(CopyId(0)) => return tell_no_copy(rt),
         RestoreFault::RedoBeyondLog => return tell_beyond(rt, names),
         RestoreFault::ReadFault => notes.error(),
         _ => None,
@@ -49,7 +44,8 @@ pub fn tell_input(rt: &HostRuntime, names: &Named<'_>, fault: &RestoreFault, not
 /// The same of an audit.
 pub fn tell_audited(rt: &HostRuntime, names: &Named<'_>, fault: &Unsound, notes: &Notes) {
     let failed = match fault {
-        Unsound::OutOfMemory | Unsound::ChainBroken(CopyId(0)) => return,
+        Unsound::OutOfMemory => return,
+        Unsound::ChainBroken(CopyId(0)) => return tell_no_copy(rt),
         Unsound::RedoBeyondLog => return tell_beyond(rt, names),
         Unsound::Unsound(copy, page) => return tell_unsound(rt, names, *copy, *page),
         Unsound::ReadFault => notes.error(),
@@ -67,6 +63,12 @@ pub fn tell_audited(rt: &HostRuntime, names: &Named<'_>, fault: &Unsound, notes:
     );
 }
 
+fn tell_no_copy(rt: &impl Eprint) {
+    let _ = eprintln!(rt;
+        "imgcopy: no image copy is named: name those of a chain, the full one first"
+    );
+}
+
 /// Names a file, says what it was read as, and why the system failed there or what is wrong with
 /// it.
 fn tell_file(
@@ -80,6 +82,7 @@ fn tell_file(
         return;
     };
     let what = what_stands(place);
+    let name = Escaped(name);
     let _ = match (failed, reason) {
         (Some(error), _) => eprintln!(rt; "imgcopy: {name} ({what}): {error}"),
         (None, Some(reason)) => eprintln!(rt; "imgcopy: {name} ({what}): {reason}"),
@@ -125,42 +128,55 @@ pub fn tell_unwritten(rt: &impl Eprint, notes: &Notes) {
 
 /// Says why the files were not saved, and which names have their new file already.
 pub fn tell_unsaved(
-    rt: &impl Eprint,
-    alloc: Global,
+    rt: &HostRuntime,
+    there: &SystemFolder<'_>,
     folder: &str,
     fault: &SaveFault,
     retired: &Retired,
     notes: &Notes,
 ) {
-    if folder.is_empty() {
-        let _ = eprintln!(rt; "imgcopy: --save names no folder");
-        return;
-    }
-    let _ = match (fault, notes.error()) {
-        (SaveFault::Unclaimed(_), Some(error)) if error.kind() == ErrorKind::WouldBlock => {
-            eprintln!(rt; "imgcopy: {folder}: another save into this folder is going on")
-        }
-        (SaveFault::Unclaimed(_), Some(error)) | (SaveFault::Unstored(_), Some(error)) => {
-            eprintln!(rt; "imgcopy: {folder}: {error}")
-        }
-        (SaveFault::Unsaved(file, _), Some(error)) => {
-            eprintln!(rt; "imgcopy: {folder}/{file}: {error}")
-        }
-        (SaveFault::Unsaved(file, _), None) => eprintln!(rt; "imgcopy: {folder}/{file}: not saved"),
-        (_, None) => eprintln!(rt; "imgcopy: {folder}: not saved"),
-    };
+    tell_why_unsaved(rt, there, folder, fault, notes);
     let stopped = match fault {
         SaveFault::Unclaimed(_) => return,
         SaveFault::Unsaved(file, _) => Some(*file),
         SaveFault::Unstored(_) => None,
     };
-    let Ok(names) = new_names(alloc, stopped, retired) else {
+    let Ok(names) = new_names(rt.alloc(), stopped, retired) else {
         return;
     };
+    let folder = Escaped(folder);
     let _ = if names.is_empty() {
         eprintln!(rt; "imgcopy: {folder}: no name has its new file")
     } else {
         eprintln!(rt; "imgcopy: {folder}: these have their new file already:{names}")
+    };
+}
+
+/// Says what befell the folder, or the file that was not saved.
+fn tell_why_unsaved(
+    rt: &impl Eprint,
+    there: &SystemFolder<'_>,
+    folder: &str,
+    fault: &SaveFault,
+    notes: &Notes,
+) {
+    let folder = Escaped(folder);
+    let SaveFault::Unsaved(file, _) = fault else {
+        let _ = match notes.error() {
+            Some(error) => eprintln!(rt; "imgcopy: {folder}: {error}"),
+            None => eprintln!(rt; "imgcopy: {folder}: not saved"),
+        };
+        return;
+    };
+    let _ = match (there.refused(), notes.error()) {
+        (Some(kept), _) => {
+            eprintln!(rt; "imgcopy: {folder}/{file}: {kept}: --force replaces it")
+        }
+        (None, Some(error)) if error.kind() == ErrorKind::WouldBlock => {
+            eprintln!(rt; "imgcopy: {folder}/{file}: another one has this log open")
+        }
+        (None, Some(error)) => eprintln!(rt; "imgcopy: {folder}/{file}: {error}"),
+        (None, None) => eprintln!(rt; "imgcopy: {folder}/{file}: not saved"),
     };
 }
 
@@ -194,32 +210,12 @@ fn new_names(
     Ok(names)
 }
 
-/// Names the unfinished files of a folder: a save or another command that was cut off left them.
-pub fn tell_left(rt: &HostRuntime, folder: &str) {
-    let Ok(entries) = fs::read_dir(rt, folder) else {
-        return;
-    };
-    let mut told = 0usize;
-    for entry in entries {
-        let Ok(entry) = entry else {
-            continue;
-        };
-        let name = entry.file_name();
-        if name.contains(".unfinished-") && told < MOST_TOLD {
-            let name = Shown::whole(name);
-            let _ = eprintln!(rt;
-                "imgcopy: {folder}/{name}: left by a command that was cut off; it may be deleted"
-            );
-            told += 1;
-        }
-    }
-}
-
 /// Names the files of a folder that look like those of a run, and are not of this one: they do not
 /// fit the log that was saved beside them.
 pub fn tell_stale<R: Files + Eprint>(rt: &R, alloc: Global, folder: &str, retired: &Retired) {
     if let Ok(names) = stale_names(rt, alloc, folder, retired) {
         if !names.is_empty() {
+            let folder = Escaped(folder);
             let _ = eprintln!(rt; "imgcopy: {folder}: not of this run:{names}");
         }
     }

@@ -1,21 +1,22 @@
 //! The command `list`.
 
 use crate::advice::tell_unwritten;
-use crate::noted;
 use crate::reasons::tell_view;
 use crate::view::bytes_of;
+use crate::{noted, patient};
 use copy_vault::ArchiveFault;
 use file_view::{
-    ArchiveHeader, Form, LogFacts, Rows, ViewFault, archive_header, facts_of, put_copies, put_log,
+    ArchiveHeader, CopyFlaw, Form, LogFacts, Rows, ViewFault, archive_header, facts_of, put_copies,
+    put_log,
 };
 use log_records::HEADER_BYTES;
-use page_core::write_out;
+use page_core::{Lsn, write_out};
 use script_run::FAULT_STATUS;
 use std::alloc::AllocError;
 use std::io::Read;
 use std::process::ExitCode;
 use std::{fs, io};
-use system_files::Notes;
+use system_files::{Escaped, Notes, copy_id};
 
 /// Lists the copies of a folder, and what restores of them would do. It goes on behind a file that
 /// is wrong, which is told, and the status is that of a fault then.
@@ -27,25 +28,10 @@ pub fn list(rt: &HostRuntime, folder: &str, form: Form) -> ExitCode {
             return ExitCode::from(FAULT_STATUS);
         }
     };
-    let mut rows = Rows::new(rt.alloc());
-    let mut is_right = true;
-    for id in ids.as_slice() {
-        match header_of(rt, folder, *id) {
-            Ok(Some(header)) => if rows.push(header).is_err() {
-                return told(rt, &ViewFault::OutOfMemory);
-            },
-            Ok(None) => is_right = false,
-            Err(_) => return told(rt, &ViewFault::OutOfMemory),
-        }
-    }
-    let is_log_right = match listed(rt, folder, form, &rows) {
-        Ok(is_log_right) => is_log_right,
-        Err(_) => return told(rt, &ViewFault::OutOfMemory),
-    };
-    if is_log_right && is_right {
-        ExitCode::SUCCESS
-    } else {
-        ExitCode::from(FAULT_STATUS)
+    match listed(rt, folder, form, ids.as_slice()) {
+        Ok(true) => ExitCode::SUCCESS,
+        Ok(false) => ExitCode::from(FAULT_STATUS),
+        Err(_) => told(rt, &ViewFault::OutOfMemory),
     }
 }
 
@@ -61,6 +47,7 @@ fn ids_in(rt: &HostRuntime, folder: &str) -> Result<Vec<u32>, ViewFault> {
     let entries = match fs::read_dir(rt, folder) {
         Ok(entries) => entries,
         Err(error) => {
+            let folder = Escaped(folder);
             let _ = eprintln!(rt; "imgcopy: {folder}: {error}");
             return Err(ViewFault::ReadFault);
         }
@@ -69,7 +56,7 @@ fn ids_in(rt: &HostRuntime, folder: &str) -> Result<Vec<u32>, ViewFault> {
         let Ok(entry) = entry else {
             return Err(ViewFault::ReadFault);
         };
-        if let Some(id) = id_in(entry.file_name()) {
+        if let Some(id) = copy_id(entry.file_name()) {
             ids.push(id)?;
         }
     }
@@ -77,20 +64,71 @@ fn ids_in(rt: &HostRuntime, folder: &str) -> Result<Vec<u32>, ViewFault> {
     Ok(ids)
 }
 
-/// The id of the copy whose file has this name.
-fn id_in(name: &str) -> Option<u32> {
-    let digits = name.strip_prefix("copy-")?;
-    if digits.starts_with('0') || !digits.bytes().all(|byte| byte.is_ascii_digit()) {
-        return None;
+/// Lists the log and the copies of these ids. Answers whether all of them are right and all lines
+/// went out; what is wrong is told.
+fn listed(rt: &HostRuntime, folder: &str, form: Form, ids: &[u32]) -> Result<bool, AllocError> {
+    let name = format!(in rt.alloc(); "{folder}/log")?;
+    let input = Notes::new();
+    let found = facts_in(rt, name.as_str(), &input);
+    let end = found.as_ref().ok().map(|log| log.end());
+    let mut rows = Rows::new(rt.alloc(), end);
+    let mut is_right = true;
+    for id in ids {
+        match header_of(rt, folder, *id)? {
+            Some((header, bytes)) => rows.push(header, bytes)?,
+            None => is_right = false,
+        }
     }
-    digits.parse().ok()
+    let mut text = String::new(rt.alloc());
+    put_copies(&mut text, form, &rows)?;
+    if let Ok(log) = &found {
+        put_log(&mut text, form, &rows, log)?;
+    }
+    is_right = tell_flaws(rt, folder, &rows, end) && is_right;
+    is_right = written(rt, text.as_str()) && is_right;
+    Ok(is_log_right(rt, name.as_str(), &found, &input) && is_right)
 }
 
-/// The header of the copy of this id. Where its file has none, or that of another copy, this is
-/// told.
-fn header_of(rt: &HostRuntime, folder: &str, id: u32) -> Result<Option<ArchiveHeader>, AllocError> {
+/// Tells what is wrong with copies, and says whether nothing is.
+fn tell_flaws(rt: &impl Eprint, folder: &str, rows: &Rows, end: Option<Lsn>) -> bool {
+    let place = Escaped(folder);
+    let end = end.map_or(0, |end| end.0);
+    let mut is_right = true;
+    for row in rows.rows() {
+        let Some(flaw) = row.flaw else {
+            continue;
+        };
+        is_right = false;
+        let header = row.header;
+        let (id, begin, redo) = (header.id, header.begin.0, header.redo.0);
+        let _ = match flaw {
+            CopyFlaw::Length => {
+                let (bytes, wanted) = (row.bytes, header.bytes());
+                eprintln!(rt; "imgcopy: {place}/copy-{id}: has {bytes} bytes, and not {wanted}")
+            }
+            CopyFlaw::Redo => eprintln!(rt;
+                "imgcopy: {place}/copy-{id}: redo point {redo} is not below the log's end {end}"
+            ),
+            CopyFlaw::Begin => eprintln!(rt;
+                "imgcopy: {place}/copy-{id}: it begins at {begin}, not below the log's end {end}"
+            ),
+        };
+    }
+    is_right
+}
+
+/// The header of the copy of this id, and how many bytes its file has. Where the file has no
+/// header, or that of another copy, this is told.
+fn header_of(
+    rt: &HostRuntime,
+    folder: &str,
+    id: u32,
+) -> Result<Option<(ArchiveHeader, u64)>, AllocError> {
     let name = format!(in rt.alloc(); "{folder}/copy-{id}")?;
     let notes = Notes::new();
+    let Some(bytes) = length_of(rt, name.as_str(), &notes) else {
+        return Ok(None);
+    };
     let header = match header_at(rt, name.as_str(), &notes) {
         Ok(header) => header,
         Err(fault) => {
@@ -100,11 +138,37 @@ fn header_of(rt: &HostRuntime, folder: &str, id: u32) -> Result<Option<ArchiveHe
         }
     };
     if header.id != id {
-        let there = header.id;
+        let (there, name) = (header.id, Escaped(name.as_str()));
         let _ = eprintln!(rt; "imgcopy: {name}: is copy {there}");
         return Ok(None);
     }
-    Ok(Some(header))
+    Ok(Some((header, bytes)))
+}
+
+/// How many bytes a regular file has. Another one is not opened, since its reader may wait for
+/// ever; this is told.
+fn length_of(rt: &HostRuntime, name: &str, notes: &Notes) -> Option<u64> {
+    let there = fs::metadata(rt, name);
+    notes.note(&there);
+    match there {
+        Ok(there) if there.is_file() => Some(there.len()),
+        Ok(_) => {
+            tell_irregular(rt, name);
+            None
+        }
+        Err(_) => {
+            let fault = ViewFault::ReadFault;
+            let _ = rt.eprintln(&fault);
+            tell_view(rt, name, &fault, notes);
+            None
+        }
+    }
+}
+
+fn tell_irregular(rt: &impl Eprint, name: &str) {
+    let name = Escaped(name);
+    let _ = rt.eprintln(&ViewFault::ReadFault);
+    let _ = eprintln!(rt; "imgcopy: {name}: this is no regular file");
 }
 
 /// The header of an archive, of which nothing else is read.
@@ -124,35 +188,57 @@ fn header_at(rt: &HostRuntime, name: &str, notes: &Notes) -> Result<ArchiveHeade
     }
 }
 
-/// Writes the lines of the copies, and those of the log. Answers whether the log is right and all
-/// lines went out; what is wrong is told.
-fn listed(rt: &HostRuntime, folder: &str, form: Form, rows: &Rows) -> Result<bool, AllocError> {
-    let mut text = String::new(rt.alloc());
-    put_copies(&mut text, form, rows)?;
-    let name = format!(in rt.alloc(); "{folder}/log")?;
-    let (input, output) = (Notes::new(), Notes::new());
-    let found = facts_in(rt, name.as_str(), &input);
-    if let Ok(log) = &found {
-        put_log(&mut text, form, rows, log)?;
+/// Writes the lines, and says whether all went out.
+fn written(rt: &HostRuntime, text: &str) -> bool {
+    let output = Notes::new();
+    match write_out(
+        &mut noted(patient(rt, io::writer(rt)), &output),
+        text.as_bytes(),
+    ) {
+        Ok(()) => true,
+        Err(done) => {
+            let _ = rt.eprintln(&ViewFault::WriteFault(done));
+            tell_unwritten(rt, &output);
+            false
+        }
     }
-    if let Err(done) = write_out(&mut noted(io::writer(rt), &output), text.as_bytes()) {
-        let _ = rt.eprintln(&ViewFault::WriteFault(done));
-        tell_unwritten(rt, &output);
-        return Ok(false);
-    }
-    let fault = match &found {
+}
+
+/// Whether the log is right; what is wrong with it is told.
+fn is_log_right(
+    rt: &HostRuntime,
+    name: &str,
+    found: &Result<LogFacts, ViewFault>,
+    notes: &Notes,
+) -> bool {
+    let fault = match found {
         Ok(log) => match log.cut {
             Some(cut) => ViewFault::Log(cut.fault()),
-            None => return Ok(true),
+            None => return true,
         },
+        Err(ViewFault::ReadFault) if is_irregular(rt, name) => {
+            tell_irregular(rt, name);
+            return false;
+        }
         Err(fault) => *fault,
     };
     let _ = rt.eprintln(&fault);
-    tell_view(rt, name.as_str(), &fault, &input);
-    Ok(false)
+    tell_view(rt, name, &fault, notes);
+    false
 }
 
+fn is_irregular(rt: &HostRuntime, name: &str) -> bool {
+    match fs::metadata(rt, name) {
+        Ok(there) => !there.is_file(),
+        Err(_) => false,
+    }
+}
+
+/// What a log comes to. What is no regular file is not opened.
 fn facts_in(rt: &HostRuntime, name: &str, notes: &Notes) -> Result<LogFacts, ViewFault> {
+    if is_irregular(rt, name) {
+        return Err(ViewFault::ReadFault);
+    }
     let bytes = bytes_of(rt, name, notes)?;
     facts_of(rt.alloc(), &bytes)
 }

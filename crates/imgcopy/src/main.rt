@@ -5,47 +5,47 @@ ghost use Rattle.std.specs.Prelude.{◌≡◌, ◌⊎◌, IfErr, IfSome, OnOk};
 ghost use Rattle.std.specs.Process.{exit_status};
 ghost use Rattle.buffer_pool.specs.Pool.{IsFrameCount};
 ghost use Rattle.log_records.specs.Log.{IsPageCount};
-ghost use Rattle.script_run.specs.Status.{status_of_audit, status_of_finish};
+ghost use Rattle.script_run.specs.Status.{status_of_finish};
 
 mod advice;
+mod audits;
 mod chain_reason;
 mod headers;
+mod leftovers;
 mod list;
 mod output;
+mod read_once;
 mod reasons;
 mod restores;
+mod saving;
 mod strict;
 mod view;
 
-use advice::{
-    tell_audited, tell_input, tell_left, tell_script, tell_stale, tell_unread, tell_unsaved,
-    tell_unwritten,
-};
+use advice::{tell_script, tell_unread, tell_unwritten};
 use aries_core::Setup;
+use audits::audit;
 use command_words::{Command, command_of, words_of};
-use copy_audit::{Sound, Unsound};
-use copy_vault::CopyId;
 use event_script::MAX_SCRIPT_BYTES;
 use file_view::{Form, Wanted};
 use list::list;
-use output::{Output, put_in_place, tell_output};
+use output::{Inputs, Limits, Output, put_in_place, tell_output};
 use page_core::{FaultName, Lsn, PageNo, TxnNo};
 use reasons::{Named, tell_redo};
 use restores::{Outputs, restore};
-use saved_files::{audit_files, check_master, save_files, unsound_pages};
+use saving::Saving;
 use script_run::{
-    FAULT_STATUS, FinishFault, REFUSED_STATUS, Ran, RunFault, audit_status, finish_script,
-    refused_status, restore_status, run_script,
+    FAULT_STATUS, FinishFault, REFUSED_STATUS, Ran, RunFault, finish_script, refused_status,
+    run_script,
 };
 use std::fmt::Display;
-use std::io;
 use std::io::{IsTerminal, Read, Write};
 use std::process::ExitCode;
 use std::thread::Threads;
+use std::{fmt, io};
 use strict::{Kept, Refusals, Tallied, line_of_call};
-use system_files::{Noted, Notes, SystemFiles, SystemFolder};
+use system_files::{EscapedText, Noted, Notes, Patient};
 use view::show;
-use volume_folder::{OpenCall, open_folder};
+use volume_folder::{OpenCall, OpenEnd, open_folder};
 use volume_redo::{Fault, redo_stream};
 
 /// How many bytes of a script are kept at most, to show a bad line.
@@ -54,30 +54,38 @@ const MOST_KEPT: usize = 65_536;
 fn main(rt: HostRuntime) -> ExitCode {
     let words = match words_of(&rt) {
         Ok(words) => words,
-        Err(fault) => return told_whole(&rt, &fault),
+        Err(fault) => return told_whole(&rt, &EscapedText(&fault)),
     };
     match command_of(rt.alloc(), words.as_slice()) {
         Ok(Command::Redo) => redo(&rt),
-        Ok(Command::RedoInto { output }) => redo_into(&rt, output),
+        Ok(Command::RedoInto { output, force }) => redo_into(&rt, output, force),
         Ok(
             Command::Run {
                 pages,
                 frames,
                 save,
                 strict,
+                force,
             },
-        ) => run(&rt, &rt, Setup { pages, frames }, save, strict),
+        ) => {
+            let save = save.map(|folder| Saving { folder, force });
+            run(&rt, &rt, Setup { pages, frames }, save, strict)
+        }
         Ok(
             Command::Open {
                 folder,
                 pages,
                 frames,
+                salvage,
+                strict,
             },
         ) => {
             let call = OpenCall {
                 folder,
                 pages,
                 frames,
+                salvage,
+                strict,
             };
             open(&rt, &rt, &call)
         }
@@ -88,6 +96,7 @@ fn main(rt: HostRuntime) -> ExitCode {
                 archives,
                 output,
                 log_output,
+                force,
             },
         ) => {
             let names = Named {
@@ -98,6 +107,7 @@ fn main(rt: HostRuntime) -> ExitCode {
             let outputs = Outputs {
                 volume: output,
                 log: log_output,
+                force,
             };
             restore(&rt, &rt, &names, master, outputs)
         }
@@ -135,7 +145,8 @@ fn main(rt: HostRuntime) -> ExitCode {
             show(&rt, file, &wanted, form_of(json))
         }
         Ok(Command::ListFolder { folder, json }) => list(&rt, folder, form_of(json)),
-        Err(fault) => told_whole(&rt, &fault),
+        Ok(Command::Version) => answered(&rt, &Version, 0),
+        Err(fault) => told_whole(&rt, &EscapedText(&fault)),
     }
 }
 
@@ -155,8 +166,8 @@ fn redo(rt: &HostRuntime) -> ExitCode {
     let (input, output) = (Notes::new(), Notes::new());
     let done = redo_stream(
         rt.alloc(),
-        &mut noted(rt.stdin(), &input),
-        &mut noted(io::writer(rt), &output),
+        &mut noted(patient(rt, rt.stdin()), &input),
+        &mut noted(patient(rt, io::writer(rt)), &output),
     );
     let status = status_of(rt, &done);
     match &done {
@@ -169,12 +180,20 @@ fn redo(rt: &HostRuntime) -> ExitCode {
 }
 
 /// The same, into a file.
-fn redo_into(rt: &HostRuntime, path: &str) -> ExitCode {
+fn redo_into(rt: &HostRuntime, path: &str, force: bool) -> ExitCode {
     let (input, notes) = (Notes::new(), Notes::new());
-    let Some(mut output) = Output::begin(rt, path, &notes) else {
+    let limits = Limits {
+        inputs: Inputs::Standard,
+        force,
+    };
+    let Some(mut output) = Output::begin(rt, path, limits, &notes) else {
         return ExitCode::from(FAULT_STATUS);
     };
-    let done = redo_stream(rt.alloc(), &mut noted(rt.stdin(), &input), &mut output.file);
+    let done = redo_stream(
+        rt.alloc(),
+        &mut noted(patient(rt, rt.stdin()), &input),
+        &mut output.file,
+    );
     let Err(fault) = &done else {
         return put_in_place(rt, path, output, &notes);
     };
@@ -204,16 +223,23 @@ fn run(
     rt: &HostRuntime,
     threads: &(impl Threads + Sync),
     setup: Setup,
-    save: Option<&str>,
+    save: Option<Saving<'_>>,
     strict: bool,
 ) -> ExitCode
     requires pages { IsPageCount setup.pages }
     requires frames { IsFrameCount setup.frames }
 {
+    if save.is_some_and(|save| !save.may_begin(rt)) {
+        return ExitCode::from(FAULT_STATUS);
+    }
     let (input, output) = (Notes::new(), Notes::new());
     let most = if strict { MAX_SCRIPT_BYTES } else { MOST_KEPT };
-    let mut reader = Kept::new(noted(rt.stdin(), &input), Vec::new(rt.alloc()), most);
-    let mut writer = Tallied::new(noted(io::writer(rt), &output));
+    let mut reader = Kept::new(
+        noted(patient(rt, rt.stdin()), &input),
+        Vec::new(rt.alloc()),
+        most,
+    );
+    let mut writer = Tallied::new(noted(patient(rt, io::writer(rt)), &output));
     let status = match played(rt, threads, setup, save, &mut reader, &mut writer) {
         Ok(status) => status,
         Err(fault) => {
@@ -240,7 +266,7 @@ fn played<R: Read, W: Write>(
     rt: &HostRuntime,
     threads: &(impl Threads + Sync),
     setup: Setup,
-    save: Option<&str>,
+    save: Option<Saving<'_>>,
     reader: &mut R,
     writer: &mut W,
 ) -> Result<u8, RunFault>
@@ -252,24 +278,23 @@ fn played<R: Read, W: Write>(
 }
 
 /// Saves what a script left, and does its last restore.
-fn finish(rt: &HostRuntime, threads: &(impl Threads + Sync), ran: Ran, save: Option<&str>) -> u8 {
-    if let Some(folder) = save {
-        let notes = Notes::new();
-        let mut made = SystemFolder::new(rt, rt.alloc(), folder, &notes);
-        if let Err(fault) = save_files(&mut made, rt.alloc(), &ran.retired) {
-            let _ = rt.eprintln(&fault);
-            tell_unsaved(rt, rt.alloc(), folder, &fault, &ran.retired, &notes);
+fn finish(
+    rt: &HostRuntime,
+    threads: &(impl Threads + Sync),
+    ran: Ran,
+    save: Option<Saving<'_>>,
+) -> u8 {
+    if let Some(save) = save {
+        if !save.save(rt, &ran.retired) {
             return FAULT_STATUS;
         }
-        tell_stale(rt, rt.alloc(), folder, &ran.retired);
-        tell_left(rt, folder);
     }
     let output = Notes::new();
     let done = finish_script(
         threads,
         rt.alloc(),
         ran,
-        &mut noted(io::writer(rt), &output),
+        &mut noted(patient(rt, io::writer(rt)), &output),
     );
     let status = status_of_finish(rt, &done);
     if let Err(FinishFault::WriteFault(_)) = done {
@@ -283,70 +308,15 @@ fn open(rt: &HostRuntime, threads: &(impl Threads + Sync), call: &OpenCall<'_>) 
     requires pages { IfSome call.now.pages IsPageCount }
     requires frames { IsFrameCount call.now.frames }
 {
-    if open_folder(rt, threads, call) {
-        ExitCode::SUCCESS
-    } else {
-        ExitCode::from(FAULT_STATUS)
+    match open_folder(rt, threads, call) {
+        OpenEnd::Well => ExitCode::SUCCESS,
+        OpenEnd::Refused => ExitCode::from(REFUSED_STATUS),
+        OpenEnd::Failed => ExitCode::from(FAULT_STATUS),
     }
-}
-
-/// Audits a chain of copies against a log, and the master record first, if one is named.
-fn audit(rt: &HostRuntime, names: &Named<'_>, all: bool) -> ExitCode {
-    let notes = Notes::new();
-    let files = SystemFiles {
-        files: rt,
-        notes: &notes,
-    };
-    if let Some(master) = names.master {
-        if let Err(fault) = check_master(&files, rt.alloc(), names.log, master) {
-            let status = answered(rt, &fault, restore_status(&fault));
-            tell_input(rt, names, &fault, &notes);
-            return status;
-        }
-    }
-    let done = audit_files(&files, rt.alloc(), names.log, names.archives);
-    let status = status_of_audit(rt, &done);
-    if let Err(fault) = &done {
-        tell_audited(rt, names, fault, &notes);
-        if all {
-            if let Unsound::Unsound(copy, page) = fault {
-                return told_others(rt, &files, names, (*copy, *page), status);
-            }
-        }
-    }
-    status
-}
-
-/// Tells the other unsound pages, each with the first copy up to which the chain has it so.
-fn told_others(
-    rt: &HostRuntime,
-    files: &SystemFiles<'_, HostRuntime>,
-    names: &Named<'_>,
-    first: (CopyId, PageNo),
-    status: ExitCode,
-) -> ExitCode {
-    let found = match unsound_pages(files, rt.alloc(), names.log, names.archives) {
-        Ok(found) => found,
-        Err(fault) => {
-            let _ = rt.eprintln(&fault);
-            return ExitCode::from(FAULT_STATUS);
-        }
-    };
-    for it in found.pages.as_slice() {
-        if (it.copy, it.page) != first {
-            if let Err(error) = rt.println(&Unsound::Unsound(it.copy, it.page)) {
-                return told_unprinted(rt, &error);
-            }
-        }
-    }
-    if found.has_more {
-        let _ = eprintln!(rt; "imgcopy: more pages than these are unsound");
-    }
-    status
 }
 
 /// Tells that an answer could not be written to standard output.
-fn told_unprinted(rt: &impl Eprint, error: &io::Error) -> ExitCode
+pub(crate) fn told_unprinted(rt: &impl Eprint, error: &io::Error) -> ExitCode
     ensures { exit_status result ≡ 2 }
 {
     let _ = eprintln!(rt; "{} 0", FaultName::WriteFault);
@@ -356,25 +326,12 @@ fn told_unprinted(rt: &impl Eprint, error: &io::Error) -> ExitCode
 
 /// Tells an answer on standard output, and answers this status, or that of a fault where the answer
 /// cannot be written.
-fn answered(rt: &(impl Print + Eprint), answer: &impl Display, status: u8) -> ExitCode
+pub(crate) fn answered(rt: &(impl Print + Eprint), answer: &impl Display, status: u8) -> ExitCode
     ensures { (exit_status result ≡ status) ⊎ (exit_status result ≡ 2) }
 {
     match rt.println(answer) {
         Ok(()) => ExitCode::from(status),
         Err(error) => told_unprinted(rt, &error),
-    }
-}
-
-/// Tells on standard output what an audit found, and answers the program's status. Where that
-/// cannot be written, it is that of a fault.
-fn status_of_audit(rt: &(impl Print + Eprint), done: &Result<Sound, Unsound>) -> ExitCode
-    ensures sound { OnOk done.now ((exit_status result ≡ 0) ⊎ (exit_status result ≡ 2)) }
-    ensures fault { IfErr done.now (λ fault. (exit_status result ≡ status_of_audit fault)
-        ⊎ (exit_status result ≡ 2)) }
-{
-    match done {
-        Ok(Sound) => answered(rt, &"sound", 0),
-        Err(fault) => answered(rt, fault, audit_status(fault)),
     }
 }
 
@@ -391,6 +348,15 @@ fn status_of_finish(rt: &impl Eprint, done: &Result<(), FinishFault>) -> u8
             let _ = rt.eprintln(fault);
             FAULT_STATUS
         }
+    }
+}
+
+/// The line that tells which version this is.
+struct Version;
+
+impl Display for Version {
+    fn fmt<W: fmt::Write>(&self, f: &mut fmt::Formatter<W>) -> fmt::Result {
+        f.write_str("imgcopy 0.2.0")
     }
 }
 
@@ -429,4 +395,9 @@ pub(crate) fn noted<'a, F>(stream: F, notes: &'a Notes) -> Noted<'a, F> {
         file: stream,
         notes,
     }
+}
+
+/// A standard stream that is waited for where another one made its calls such that they do not.
+pub(crate) fn patient<'a, F>(rt: &'a HostRuntime, stream: F) -> Patient<'a, F> {
+    Patient { stream, rt }
 }

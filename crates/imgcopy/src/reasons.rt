@@ -12,14 +12,14 @@ use page_core::field::u64_at;
 use page_core::{Lsn, PAGE_BYTES, PageNo};
 use std::io::{Read, Seek, SeekFrom};
 use std::{fmt, fs};
-use system_files::Notes;
+use system_files::{Escaped, Notes};
 use volume_redo::Fault;
 
 /// The place of the first archive, behind the log and the master record.
 const FIRST_ARCHIVE: usize = 2;
 
 /// The name that the system has for standard input.
-const STANDARD_INPUT: &str = "/dev/stdin";
+pub const STANDARD_INPUT: &str = "/dev/stdin";
 
 /// The files of a restore or an audit.
 #[derive(Drop)]
@@ -30,6 +30,11 @@ pub struct Named<'a> {
 }
 
 impl<'a> Named<'a> {
+    /// How many places there are.
+    pub fn count(&self) -> usize {
+        self.archives.len().saturating_add(FIRST_ARCHIVE)
+    }
+
     /// The file at this place: the log, the master record, and then the archives.
     pub fn at(&self, place: usize) -> Option<&'a str> {
         match place {
@@ -227,7 +232,9 @@ pub fn tell_view(rt: &HostRuntime, name: &str, fault: &ViewFault, notes: &Notes)
         ViewFault::ReadFault => notes.error(),
         _ => None,
     };
-    let _ = match (failed, reason_of_view(rt, name, fault)) {
+    let reason = reason_of_view(rt, name, fault);
+    let name = Escaped(name);
+    let _ = match (failed, reason) {
         (Some(error), _) => eprintln!(rt; "imgcopy: {name}: {error}"),
         (None, Some(reason)) => eprintln!(rt; "imgcopy: {name}{what}: {reason}"),
         (None, None) => eprintln!(rt; "imgcopy: {name}{what}"),
@@ -285,6 +292,7 @@ pub fn tell_beyond(rt: &HostRuntime, names: &Named<'_>) {
         if let Some(header) = archive_at(rt, name) {
             if header.redo >= end {
                 let (id, reason) = (header.id, Reason::RedoPoint(header.redo, end));
+                let name = Escaped(name);
                 let _ = eprintln!(rt; "imgcopy: {name} (image copy {id}): {reason}");
                 return;
             }
@@ -298,6 +306,7 @@ pub fn tell_unsound(rt: &HostRuntime, names: &Named<'_>, copy: CopyId, page: Pag
         if let Some(header) = archive_at(rt, name) {
             if header.id == copy.0 {
                 let (id, reason) = (header.id, Reason::Unsound(page.0, header.redo));
+                let name = Escaped(name);
                 let _ = eprintln!(rt; "imgcopy: {name} (image copy {id}): {reason}");
                 return;
             }

@@ -5,9 +5,12 @@ ghost use Rattle.std.specs.Process.{exit_status};
 ghost use Rattle.script_run.specs.Status.{status_of_restore};
 
 use crate::advice::{tell_input, tell_unwritten};
-use crate::output::{Output, is_one_place, put_in_place, tell, tell_noted, tell_output};
+use crate::output::{
+    Inputs, Limits, Output, OutputFault, have_one_folder, is_one_place, put_in_place, tell,
+    tell_fault, tell_output,
+};
 use crate::reasons::Named;
-use crate::{noted, refused_terminal};
+use crate::{noted, patient, refused_terminal};
 use media_restore::{RestoreFault, WithLogFault};
 use saved_files::{restore_volume, restore_volume_with_log};
 use script_run::{FAULT_STATUS, restore_status};
@@ -18,11 +21,12 @@ use std::thread::Threads;
 use system_files::{Notes, SystemFiles};
 
 /// The files that a restore writes. Without one for the volume, that goes to standard output;
-/// without one for the log, this is not written.
+/// without one for the log, this is not written. With force they replace files that are kept else.
 #[derive(Clone, Copy)]
 pub struct Outputs<'a> {
     pub volume: Option<&'a str>,
     pub log: Option<&'a str>,
+    pub force: bool,
 }
 
 /// Restores a volume from files, and its log if a file for that is named.
@@ -33,11 +37,17 @@ pub fn restore(
     master: &str,
     outputs: Outputs<'_>,
 ) -> ExitCode {
+    let limits = Limits {
+        inputs: Inputs::Named(names),
+        force: outputs.force,
+    };
     match (outputs.volume, outputs.log) {
         (None, None) => restore_out(rt, threads, names, master),
-        (Some(path), None) => restore_into(rt, threads, names, master, path),
-        (None, Some(log)) => restore_log_into(rt, threads, names, master, log),
-        (Some(path), Some(log)) => restore_both_into(rt, threads, names, master, path, log),
+        (Some(path), None) => restore_into(rt, threads, names, master, (path, limits)),
+        (None, Some(log)) => restore_log_into(rt, threads, names, master, (log, limits)),
+        (Some(path), Some(log)) => {
+            restore_both_into(rt, threads, names, master, (path, log, limits))
+        }
     }
 }
 
@@ -63,7 +73,7 @@ fn restore_out(
         names.log,
         master,
         names.archives,
-        &mut noted(io::writer(rt), &output),
+        &mut noted(patient(rt, io::writer(rt)), &output),
     );
     let status = status_of_files(rt, &done);
     match &done {
@@ -80,10 +90,11 @@ fn restore_into(
     threads: &(impl Threads + Sync),
     names: &Named<'_>,
     master: &str,
-    path: &str,
+    output: (&str, Limits<'_>),
 ) -> ExitCode {
+    let (path, limits) = output;
     let (notes, written) = (Notes::new(), Notes::new());
-    let Some(mut output) = Output::begin(rt, path, &written) else {
+    let Some(mut output) = Output::begin(rt, path, limits, &written) else {
         return ExitCode::from(FAULT_STATUS);
     };
     let files = SystemFiles {
@@ -118,13 +129,14 @@ fn restore_log_into(
     threads: &(impl Threads + Sync),
     names: &Named<'_>,
     master: &str,
-    log: &str,
+    output: (&str, Limits<'_>),
 ) -> ExitCode {
+    let (log, limits) = output;
     if rt.stdout().is_terminal() {
         return refused_terminal(rt);
     }
     let (notes, output, log_written) = (Notes::new(), Notes::new(), Notes::new());
-    let Some(mut log_output) = Output::begin(rt, log, &log_written) else {
+    let Some(mut log_output) = Output::begin(rt, log, limits, &log_written) else {
         return ExitCode::from(FAULT_STATUS);
     };
     let files = SystemFiles {
@@ -138,7 +150,7 @@ fn restore_log_into(
         names.log,
         master,
         names.archives,
-        &mut noted(io::writer(rt), &output),
+        &mut noted(patient(rt, io::writer(rt)), &output),
         &mut log_output.file,
     );
     let Err(fault) = &done else {
@@ -160,18 +172,18 @@ fn restore_both_into(
     threads: &(impl Threads + Sync),
     names: &Named<'_>,
     master: &str,
-    path: &str,
-    log: &str,
+    outputs: (&str, &str, Limits<'_>),
 ) -> ExitCode {
+    let (path, log, limits) = outputs;
     if is_one_place(rt, path, log) {
         tell(rt, log, &"the volume is to be written there, too");
         return ExitCode::from(FAULT_STATUS);
     }
     let (notes, written, log_written) = (Notes::new(), Notes::new(), Notes::new());
-    let Some(mut log_output) = Output::begin(rt, log, &log_written) else {
+    let Some(mut log_output) = Output::begin(rt, log, limits, &log_written) else {
         return ExitCode::from(FAULT_STATUS);
     };
-    let Some(mut output) = Output::begin(rt, path, &written) else {
+    let Some(mut output) = Output::begin(rt, path, limits, &written) else {
         log_output.drop_file();
         return ExitCode::from(FAULT_STATUS);
     };
@@ -207,27 +219,62 @@ fn restore_both_into(
     status
 }
 
-/// Puts the log in place and then the volume. Both are synced before: so where one of them does not
-/// reach the disk, neither has its name.
+/// Puts the log in place and then the volume. Both are synced before, and may take their names: so
+/// where one of them does not reach the disk, or is refused, neither has its name.
 fn put_both(
     rt: &HostRuntime,
     log: (&str, Output<'_>, &Notes),
     volume: (&str, Output<'_>, &Notes),
 ) -> ExitCode {
-    let (log_path, log_output, log_written) = log;
+    let (log_path, mut log_output, log_written) = log;
     let (path, mut output, written) = volume;
-    if output.sync().is_err() {
-        tell_noted(rt, path, written);
-        log_output.drop_file();
-        output.drop_file();
-        return ExitCode::from(FAULT_STATUS);
+    let done = match claimed_both(rt, log_path, &mut log_output, path, &mut output) {
+        Ok(()) => placed_both(&mut log_output, &mut output),
+        not_claimed => not_claimed,
+    };
+    match done {
+        Ok(()) => ExitCode::SUCCESS,
+        Err(fault) => {
+            match fault {
+                OfOne::Log(fault) => tell_fault(rt, log_path, &fault, log_written),
+                OfOne::Volume(fault) => tell_fault(rt, path, &fault, written),
+            }
+            log_output.drop_file();
+            output.drop_file();
+            ExitCode::from(FAULT_STATUS)
+        }
     }
-    if log_output.put().is_err() {
-        tell_noted(rt, log_path, log_written);
-        output.drop_file();
-        return ExitCode::from(FAULT_STATUS);
-    }
-    put_in_place(rt, path, output, written)
+}
+
+/// Why one of two outputs was not put in place.
+#[derive(Drop)]
+enum OfOne {
+    Log(OutputFault),
+    Volume(OutputFault),
+}
+
+/// Syncs both and has their folders, or the one folder that they have.
+fn claimed_both(
+    rt: &HostRuntime,
+    log_path: &str,
+    log: &mut Output<'_>,
+    path: &str,
+    volume: &mut Output<'_>,
+) -> Result<(), OfOne> {
+    volume.sync().map_err(OfOne::Volume)?;
+    log.sync().map_err(OfOne::Log)?;
+    log.claim(rt).map_err(OfOne::Log)?;
+    let claimed = if have_one_folder(rt, log_path, path) {
+        volume.share_claim(rt)
+    } else {
+        volume.claim(rt)
+    };
+    claimed.map_err(OfOne::Volume)
+}
+
+fn placed_both(log: &mut Output<'_>, volume: &mut Output<'_>) -> Result<(), OfOne> {
+    log.place().map_err(OfOne::Log)?;
+    volume.place().map_err(OfOne::Volume)
 }
 
 /// Tells why a volume is not restored from files, and answers the program's status.

@@ -4,8 +4,8 @@ ghost use Rattle.std.specs.Prelude.{◌≡◌, IfErr, OnOk};
 ghost use Rattle.std.specs.Process.{exit_status};
 
 use crate::advice::tell_unwritten;
-use crate::noted;
 use crate::reasons::tell_view;
+use crate::{noted, patient};
 use file_view::{Form, ViewFault, Wanted, read_file, show_file};
 use script_run::FAULT_STATUS;
 use std::process::ExitCode;
@@ -39,7 +39,7 @@ fn shown(
         &bytes,
         wanted,
         form,
-        &mut noted(io::writer(rt), output),
+        &mut noted(patient(rt, io::writer(rt)), output),
     )
 }
 

@@ -184,6 +184,8 @@ pub use settlement::TxnStep;
 pub use stop::Committed;
 pub use stop::NotDone;
 pub use stop::Stop;
+pub use system_files::ClaimFault;
+pub use system_files::Kept;
 pub use system_files::Noted;
 pub use system_files::Notes;
 pub use system_files::SystemFiles;

@@ -2,18 +2,43 @@
 
 ghost use Rattle.std.specs.Prelude.{None};
 
+use crate::claim::ClaimFault;
+use crate::kept::{Kept, kept_at};
 use crate::notes::{Noted, Notes};
 use saved_files::Folder;
 use std::alloc::Global;
+use std::cell::Cell;
 use std::fs::{File, OpenFile, TryLockError};
 use std::path::{Path, PathBuf};
-use std::{fs, io};
+use std::rt::Files;
+use std::time::Duration;
+use std::{fs, io, thread};
 
 /// The number that the system has for a file or folder that is not there.
 const NO_ENTRY: i32 = 2;
 
 /// The number that the system has for what another one has locked.
 const IS_LOCKED: i32 = 11;
+
+/// The number that the system has for a name that something has.
+const EXISTS: i32 = 17;
+
+/// How often a folder is asked for that another one has, and the milliseconds between: who puts one
+/// file in place has it for less.
+const CLAIMS: u32 = 50;
+
+const MILLISECONDS: u64 = 10;
+
+/// What a file of a folder may replace.
+#[derive(Clone, Copy, Debug, PartialEq, Eq)]
+enum Guard {
+    /// Whatever has its name.
+    Off,
+    /// Nothing that is kept.
+    Keeps,
+    /// What is kept too, if no one has it open.
+    Forced,
+}
 
 /// A folder of the system. It is opened before files are made in it, and is locked as long as it is
 /// open where it was claimed.
@@ -24,6 +49,9 @@ pub struct SystemFolder<'a> {
     name: &'a str,
     notes: &'a Notes,
     opened: Option<File>,
+    is_locked: bool,
+    guard: Guard,
+    refused: Cell<Option<Kept>>,
 }
 
 impl<'a> SystemFolder<'a> {
@@ -41,7 +69,62 @@ impl<'a> SystemFolder<'a> {
             name,
             notes,
             opened: None,
+            is_locked: false,
+            guard: Guard::Off,
+            refused: Cell::new(None),
         }
+    }
+
+    /// The same folder, in which no file takes the place of one that `kept_at` tells of. With force
+    /// it does, but where another one has that file locked it is an error of the kind `WouldBlock`.
+    pub fn guarded(self, force: bool) -> SystemFolder<'a> {
+        SystemFolder {
+            guard: if force { Guard::Forced } else { Guard::Keeps },
+            ..self
+        }
+    }
+
+    /// Why the last file that was to take a name did not: what has the name is kept.
+    pub fn refused(&self) -> Option<Kept> {
+        self.refused.get()
+    }
+
+    /// Claims the folder. Where another one has it, it is asked for again for half a second.
+    pub fn claim_soon(&mut self) -> Result<(), ClaimFault> {
+        if self.is_locked {
+            return Ok(());
+        }
+        for _ in 1..CLAIMS {
+            match self.claim_once() {
+                Err(ClaimFault::Busy) => {
+                    thread::sleep(self.files, Duration::from_millis(MILLISECONDS));
+                }
+                done => return done,
+            }
+        }
+        self.claim_once()
+    }
+
+    fn claim_once(&mut self) -> Result<(), ClaimFault> {
+        let handle = match self.handle() {
+            Ok(handle) => handle,
+            Err(error) => return Err(ClaimFault::Unopened(error)),
+        };
+        match handle.try_lock() {
+            Ok(()) => {
+                self.opened = Some(handle);
+                self.is_locked = true;
+                Ok(())
+            }
+            Err(TryLockError::WouldBlock) => Err(ClaimFault::Busy),
+            Err(TryLockError::Error(error)) => Err(ClaimFault::Unlocked(error)),
+        }
+    }
+
+    /// Gives the folder back to others that ask for it.
+    pub fn release(&mut self) {
+        self.opened = None;
+        self.is_locked = false;
     }
 
     /// Opens the folder, for a caller that needs no claim: its file has a name of its own until it
@@ -50,6 +133,7 @@ impl<'a> SystemFolder<'a> {
         let handle = self.handle();
         self.notes.note(&handle);
         self.opened = Some(handle?);
+        self.is_locked = false;
         Ok(())
     }
 
@@ -79,8 +163,33 @@ impl<'a> SystemFolder<'a> {
     }
 
     fn renamed(&self, from: &str, to: &str) -> io::Result<()> {
-        let (from, to) = (self.place_of(from)?, self.place_of(to)?);
-        fs::rename(self.files, from.as_path(), to.as_path())
+        let (from, place) = (self.place_of(from)?, self.place_of(to)?);
+        // Who has a log open has it locked.
+        let _replaced = self.replaceable(&place, to)?;
+        fs::rename(self.files, from.as_path(), place.as_path())
+    }
+
+    /// Sees that a file may take this name, and locks what it replaces where that is kept.
+    fn replaceable(&self, place: &PathBuf, name: &str) -> io::Result<Option<File>> {
+        if self.guard == Guard::Off {
+            return Ok(None);
+        }
+        let Some(kept) = kept_at(self.files, place.as_path(), name) else {
+            return Ok(None);
+        };
+        if self.guard == Guard::Keeps {
+            self.refused.set(Some(kept));
+            return Err(io::Error::from_raw_os_error(EXISTS));
+        }
+        if !fs::metadata(self.files, place.as_path())?.is_file() {
+            return Ok(None);
+        }
+        let file = fs::open(self.files, place.as_path())?;
+        match file.try_lock() {
+            Ok(()) => Ok(Some(file)),
+            Err(TryLockError::WouldBlock) => Err(io::Error::from_raw_os_error(IS_LOCKED)),
+            Err(TryLockError::Error(error)) => Err(error),
+        }
     }
 
     fn synced(&self) -> io::Result<()> {
@@ -103,9 +212,13 @@ impl<'a> Folder for SystemFolder<'a> {
     ghost given_up = { λ _. None };
 
     fn claim(&mut self) -> io::Result<()> {
+        if self.is_locked {
+            return Ok(());
+        }
         let handle = self.locked();
         self.notes.note(&handle);
         self.opened = Some(handle?);
+        self.is_locked = true;
         Ok(())
     }
 
@@ -138,5 +251,17 @@ impl<'a> Folder for SystemFolder<'a> {
         let synced = self.synced();
         self.notes.note(&synced);
         synced
+    }
+}
+
+/// Whether another one has the file at this place locked. What is no regular file is not opened.
+pub fn is_in_use<R: Files<File = File>>(files: &R, place: &Path<'_>) -> bool {
+    match fs::symlink_metadata(files, *place) {
+        Ok(there) if there.is_file() => {}
+        _ => return false,
+    }
+    match fs::open(files, *place) {
+        Ok(file) => matches!(file.try_lock(), Err(TryLockError::WouldBlock)),
+        Err(_) => false,
     }
 }

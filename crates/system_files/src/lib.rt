@@ -1,10 +1,20 @@
 //! The files and folders of the system, for `saved_files`. No contract says what they hold.
 #![tactic(auto)]
 
+mod claim;
+mod escaped;
 mod files;
 mod folder;
+mod identity;
+mod kept;
 mod notes;
+mod patient;
 
+pub use claim::ClaimFault;
+pub use escaped::{Escaped, EscapedText};
 pub use files::SystemFiles;
-pub use folder::SystemFolder;
+pub use folder::{SystemFolder, is_in_use};
+pub use identity::FileIdentity;
+pub use kept::{Kept, copy_id, kept_at};
 pub use notes::{Noted, Notes};
+pub use patient::Patient;

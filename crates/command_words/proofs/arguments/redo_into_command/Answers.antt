@@ -1,10 +1,11 @@
-use Rattle.std.proofs.Common.{ap, codes, true, ◌∙◌}
+use Rattle.std.proofs.Common.{[], ap, codes, refl, true, ◌∙◌, ◌∷◌}
 use Rattle.std.proofs.lemmas.Result.{IfOk-weaker}
 use Rattle.clap.specs.declared.builder.command.Command.{Command as Parser}
 use Rattle.clap.specs.declared.builder.command.Command.TheOpen.{Command-F}
-use Rattle.clap.specs.Simple.{app_of_fields, new_app}
-use Rattle.command_words.specs.Command.{output_rule}
-use Rattle.command_words.proofs.RequiredLemmas.{app_with, asks_for_output}
+use Rattle.clap.specs.Simple.{app_of_fields, new_app, with_rule}
+use Rattle.command_words.specs.Command.{force_rule, output_rule}
+use Rattle.command_words.proofs.ChainLemmas.{made_of, none_fit, one_more_fits}
+use Rattle.command_words.proofs.RequiredLemmas.{app_with}
 use Rattle.command_words.proofs.arguments.redo_into_command.Goals as goal
 
 pub returns-clause-made : goal.returns-clause-made
@@ -15,24 +16,32 @@ returns-clause-made c =
     let negates = λ (f : Command-F Parser). f.subcommand_negates_reqs in
     let named = c.in_ok-bin_name.ensures.0 in
     let shown = c.override_usage.ensures in
-    IfOk-weaker c.arg.result _ _ (λ command added. asks_for_output
-    c.in_ok-bin_name.field-0 command
-    c.required_output_arg.result
-    (ap args named ∙ (ap args shown ∙ (ap args c.about.ensures ∙ c.new.ensures.empty.0)))
-    (ap groups named ∙ (ap groups shown ∙ (ap groups c.about.ensures ∙ c.new.ensures.empty.1)))
-    (ap globals named ∙ (ap globals shown ∙ (ap globals c.about.ensures ∙ c.new.ensures.local)))
-    (ap negates named ∙ (ap negates shown ∙ (ap negates c.about.ensures ∙ c.new.ensures.negates)))
-    c.required_output_arg.ensures.fits
-    c.required_output_arg.ensures.rule
-    c.required_output_arg.ensures.value
-    added) c.arg.ensures
+    IfOk-weaker c.arg-2.result _ _ (λ command added. record {
+      output = c.required_output_arg.result;
+      force = c.force_arg.result;
+      made = made_of c.in_ok-bin_name.field-0 command
+          (c.required_output_arg.result ∷ c.force_arg.result ∷ [])
+          (ap args named ∙ (ap args shown ∙ (ap args c.about.ensures ∙ c.new.ensures.empty.0)))
+          (ap groups named ∙ (ap groups shown ∙ (ap groups c.about.ensures ∙ c.new.ensures.empty.1)))
+          (ap globals named ∙ (ap globals shown ∙ (ap globals c.about.ensures ∙ c.new.ensures.local)))
+          (ap negates named ∙ (ap negates shown ∙ (ap negates c.about.ensures ∙ c.new.ensures.negates)))
+          (c.in_ok-arg.field-0, c.in_ok-arg.ensures, (command, added, refl))
+          (one_more_fits c.required_output_arg.result (c.force_arg.result ∷ []) c.required_output_arg.ensures.fits
+          (one_more_fits c.force_arg.result [] c.force_arg.ensures.fits
+          none_fit));
+      output_is = c.required_output_arg.ensures.rule;
+      force_is = c.force_arg.ensures.rule;
+      output_required = c.required_output_arg.ensures.value;
+    }) c.arg-2.ensures
 
 pub returns-clause-app : goal.returns-clause-app
 returns-clause-app c =
     let named = c.in_ok-bin_name.ensures.0 in
     let shown = c.override_usage.ensures in
     let start = ap app_of_fields named ∙ (ap app_of_fields shown ∙ (ap app_of_fields c.about.ensures ∙ c.new.ensures.app)) in
-    let app = new_app (codes "redo") in
-    IfOk-weaker c.arg.result _ _ (λ command added. app_with c.in_ok-bin_name.field-0 command c.required_output_arg.result
-    app (record output_rule { required = true }) added c.required_output_arg.ensures.fits.1 start
-    c.required_output_arg.ensures.rule) c.arg.ensures
+    let app_0 = new_app (codes "redo") in
+    let with_1 = app_with c.in_ok-bin_name.field-0 c.in_ok-arg.field-0 c.required_output_arg.result app_0 (record output_rule { required = true })
+    c.in_ok-arg.ensures c.required_output_arg.ensures.fits.1 start c.required_output_arg.ensures.rule in
+    let app_1 = with_rule app_0 (record output_rule { required = true }) in
+    IfOk-weaker c.arg-2.result _ _ (λ command added. app_with c.in_ok-arg.field-0 command c.force_arg.result app_1
+    force_rule added c.force_arg.ensures.fits.1 with_1 c.force_arg.ensures.rule) c.arg-2.ensures

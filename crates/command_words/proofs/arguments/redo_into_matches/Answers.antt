@@ -1,7 +1,7 @@
 use Rattle.std.proofs.Common.{lit<, refl}
 use Rattle.command_words.specs.Command.{redo_into_app}
 use Rattle.command_words.proofs.ClapLemmas.{for_memory, matched, passed_up, taken}
-use Rattle.command_words.proofs.RequiredLemmas.{output_given}
+use Rattle.command_words.proofs.RunLemmas.{output_given}
 use Rattle.command_words.proofs.arguments.redo_into_matches.Goals as goal
 
 pub returns-in_err-try_get_matches_from-clause-only :

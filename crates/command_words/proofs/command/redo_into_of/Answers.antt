@@ -1,6 +1,7 @@
-use Rattle.std.proofs.Common.{ap, codes, sym, ◌∙◌}
-use Rattle.clap.specs.Words.{found_of, first_of}
-use Rattle.clap.proofs.WalkLemmas.{first_value-rows}
+use Rattle.std.proofs.Common.{ap, codes, subst, sym, ◌∙◌}
+use Rattle.clap.specs.Words.{found_of, first_of, one_of}
+use Rattle.clap.proofs.WalkLemmas.{first_value-rows, one_text-rows}
+use Rattle.command_words.specs.Command.{IsFlag}
 use Rattle.command_words.proofs.command.redo_into_of.Goals as goal
 
 pub returns-clause-ok : goal.returns-clause-ok
@@ -10,4 +11,7 @@ returns-clause-ok g c =
       (c.requires, c.in_ok-matches.ensures.taken),
       ap (first_of (codes "into")) (sym rows)
           ∙ (sym (first_value-rows found (codes "into")) ∙ c.value_in-output.ensures),
+      subst (λ o. IsFlag o c.get_flag-force.result)
+          (one_text-rows (found_of c.in_ok-matches.matches) (codes "with_force") ∙ ap (one_of (codes "with_force")) rows)
+          (c.get_flag-force.ensures.none, c.get_flag-force.ensures.value, c.get_flag-force.ensures.other),
     )

@@ -1,7 +1,8 @@
-use Rattle.std.proofs.Common.{List, Option, [], ap, codes, sym, ◌∙◌}
+use Rattle.std.proofs.Common.{List, Option, [], ap, codes, subst, sym, ◌∙◌}
 use Rattle.std.specs.Prelude.{unwrap_or}
-use Rattle.clap.specs.Words.{Text, all_of, found_of, first_of}
-use Rattle.clap.proofs.WalkLemmas.{first_value-rows, raw_values-rows}
+use Rattle.clap.specs.Words.{Text, all_of, found_of, first_of, one_of}
+use Rattle.clap.proofs.WalkLemmas.{first_value-rows, one_text-rows, raw_values-rows}
+use Rattle.command_words.specs.Command.{IsFlag}
 use Rattle.command_words.proofs.command.restore_of.Goals as goal
 
 pub returns-clause-ok : goal.returns-clause-ok
@@ -18,4 +19,7 @@ returns-clause-ok g c =
       c.get_str-output.ensures ∙ (first_value-rows found (codes "into") ∙ ap (first_of (codes "into")) rows),
       c.get_str-log_output.ensures
           ∙ (first_value-rows found (codes "log_into") ∙ ap (first_of (codes "log_into")) rows),
+      subst (λ o. IsFlag o c.get_flag-force.result)
+          (one_text-rows (found_of c.in_ok-matches.matches) (codes "with_force") ∙ ap (one_of (codes "with_force")) rows)
+          (c.get_flag-force.ensures.none, c.get_flag-force.ensures.value, c.get_flag-force.ensures.other),
     )

@@ -16,4 +16,7 @@ returns-clause-ok g c =
       subst (λ o. IsFlag o c.get_flag-strict.result)
           (one_text-rows (found_of c.in_ok-matches.matches) (codes "is_strict") ∙ ap (one_of (codes "is_strict")) rows)
           (c.get_flag-strict.ensures.none, c.get_flag-strict.ensures.value, c.get_flag-strict.ensures.other),
+      subst (λ o. IsFlag o c.get_flag-force.result)
+          (one_text-rows (found_of c.in_ok-matches.matches) (codes "with_force") ∙ ap (one_of (codes "with_force")) rows)
+          (c.get_flag-force.ensures.none, c.get_flag-force.ensures.value, c.get_flag-force.ensures.other),
     )

@@ -1,10 +1,10 @@
-use Rattle.std.proofs.Common.{ap, codes, ◌∙◌}
+use Rattle.std.proofs.Common.{[], ap, codes, refl, ◌∙◌, ◌∷◌}
 use Rattle.std.proofs.lemmas.Result.{IfOk-weaker}
 use Rattle.clap.specs.declared.builder.command.Command.{Command as Parser}
 use Rattle.clap.specs.declared.builder.command.Command.TheOpen.{Command-F}
 use Rattle.clap.specs.Simple.{app_of_fields, new_app, with_rule}
-use Rattle.command_words.specs.Command.{folder_rule, frames_rule, told_pages_rule}
-use Rattle.command_words.proofs.OpenLemmas.{asks_for_folder}
+use Rattle.command_words.specs.Command.{folder_rule, frames_rule, salvage_rule, strict_rule, told_pages_rule}
+use Rattle.command_words.proofs.ChainLemmas.{made_of, none_fit, one_more_fits}
 use Rattle.command_words.proofs.RequiredLemmas.{app_with}
 use Rattle.command_words.proofs.open_words.open_command.Goals as goal
 
@@ -16,28 +16,52 @@ returns-clause-made c =
     let negates = λ (f : Command-F Parser). f.subcommand_negates_reqs in
     let named = c.in_ok-bin_name.ensures.0 in
     let shown = c.override_usage.ensures in
-    IfOk-weaker c.arg-3.result _ _ (λ command added. asks_for_folder
-    c.in_ok-bin_name.field-0 c.in_ok-arg.field-0 c.in_ok-arg-2.field-0 command
-    c.folder_arg.result c.told_pages_arg.result c.frames_arg.result
-    (ap args named ∙ (ap args shown ∙ (ap args c.about.ensures ∙ c.new.ensures.empty.0)))
-    (ap groups named ∙ (ap groups shown ∙ (ap groups c.about.ensures ∙ c.new.ensures.empty.1)))
-    (ap globals named ∙ (ap globals shown ∙ (ap globals c.about.ensures ∙ c.new.ensures.local)))
-    (ap negates named ∙ (ap negates shown ∙ (ap negates c.about.ensures ∙ c.new.ensures.negates)))
-    c.folder_arg.ensures.fits c.told_pages_arg.ensures.fits c.frames_arg.ensures.fits
-    c.folder_arg.ensures.rule c.told_pages_arg.ensures.rule c.frames_arg.ensures.rule
-    c.folder_arg.ensures.value c.told_pages_arg.ensures.parser c.frames_arg.ensures.parser
-    c.in_ok-arg.ensures c.in_ok-arg-2.ensures added) c.arg-3.ensures
+    IfOk-weaker c.arg-5.result _ _ (λ command added. record {
+      folder = c.folder_arg.result;
+      pages = c.told_pages_arg.result;
+      frames = c.frames_arg.result;
+      salvage = c.salvage_arg.result;
+      strict = c.strict_arg.result;
+      made = made_of c.in_ok-bin_name.field-0 command
+          (c.folder_arg.result ∷ c.told_pages_arg.result ∷ c.frames_arg.result ∷ c.salvage_arg.result ∷ c.strict_arg.result ∷ [])
+          (ap args named ∙ (ap args shown ∙ (ap args c.about.ensures ∙ c.new.ensures.empty.0)))
+          (ap groups named ∙ (ap groups shown ∙ (ap groups c.about.ensures ∙ c.new.ensures.empty.1)))
+          (ap globals named ∙ (ap globals shown ∙ (ap globals c.about.ensures ∙ c.new.ensures.local)))
+          (ap negates named ∙ (ap negates shown ∙ (ap negates c.about.ensures ∙ c.new.ensures.negates)))
+          (c.in_ok-arg.field-0, c.in_ok-arg.ensures, (c.in_ok-arg-2.field-0, c.in_ok-arg-2.ensures, (c.in_ok-arg-3.field-0, c.in_ok-arg-3.ensures, (c.in_ok-arg-4.field-0, c.in_ok-arg-4.ensures, (command, added, refl)))))
+          (one_more_fits c.folder_arg.result (c.told_pages_arg.result ∷ c.frames_arg.result ∷ c.salvage_arg.result ∷ c.strict_arg.result ∷ []) c.folder_arg.ensures.fits
+          (one_more_fits c.told_pages_arg.result (c.frames_arg.result ∷ c.salvage_arg.result ∷ c.strict_arg.result ∷ []) c.told_pages_arg.ensures.fits
+          (one_more_fits c.frames_arg.result (c.salvage_arg.result ∷ c.strict_arg.result ∷ []) c.frames_arg.ensures.fits
+          (one_more_fits c.salvage_arg.result (c.strict_arg.result ∷ []) c.salvage_arg.ensures.fits
+          (one_more_fits c.strict_arg.result [] c.strict_arg.ensures.fits
+          none_fit)))));
+      folder_is = c.folder_arg.ensures.rule;
+      pages_is = c.told_pages_arg.ensures.rule;
+      frames_is = c.frames_arg.ensures.rule;
+      salvage_is = c.salvage_arg.ensures.rule;
+      strict_is = c.strict_arg.ensures.rule;
+      required = c.folder_arg.ensures.value;
+      pages_parsed = c.told_pages_arg.ensures.parser;
+      frames_parsed = c.frames_arg.ensures.parser;
+    }) c.arg-5.ensures
 
 pub returns-clause-app : goal.returns-clause-app
 returns-clause-app c =
     let named = c.in_ok-bin_name.ensures.0 in
     let shown = c.override_usage.ensures in
     let start = ap app_of_fields named ∙ (ap app_of_fields shown ∙ (ap app_of_fields c.about.ensures ∙ c.new.ensures.app)) in
-    let app = new_app (codes "open") in
-    let with_1 = app_with c.in_ok-bin_name.field-0 c.in_ok-arg.field-0 c.folder_arg.result app folder_rule
+    let app_0 = new_app (codes "open") in
+    let with_1 = app_with c.in_ok-bin_name.field-0 c.in_ok-arg.field-0 c.folder_arg.result app_0 folder_rule
     c.in_ok-arg.ensures c.folder_arg.ensures.fits.1 start c.folder_arg.ensures.rule in
-    let with_2 = app_with c.in_ok-arg.field-0 c.in_ok-arg-2.field-0 c.told_pages_arg.result (with_rule app folder_rule)
-    told_pages_rule c.in_ok-arg-2.ensures c.told_pages_arg.ensures.fits.1 with_1 c.told_pages_arg.ensures.rule in
-    IfOk-weaker c.arg-3.result _ _ (λ command added. app_with c.in_ok-arg-2.field-0 command c.frames_arg.result
-    (with_rule (with_rule app folder_rule) told_pages_rule) frames_rule added c.frames_arg.ensures.fits.1 with_2
-    c.frames_arg.ensures.rule) c.arg-3.ensures
+    let app_1 = with_rule app_0 folder_rule in
+    let with_2 = app_with c.in_ok-arg.field-0 c.in_ok-arg-2.field-0 c.told_pages_arg.result app_1 told_pages_rule
+    c.in_ok-arg-2.ensures c.told_pages_arg.ensures.fits.1 with_1 c.told_pages_arg.ensures.rule in
+    let app_2 = with_rule app_1 told_pages_rule in
+    let with_3 = app_with c.in_ok-arg-2.field-0 c.in_ok-arg-3.field-0 c.frames_arg.result app_2 frames_rule
+    c.in_ok-arg-3.ensures c.frames_arg.ensures.fits.1 with_2 c.frames_arg.ensures.rule in
+    let app_3 = with_rule app_2 frames_rule in
+    let with_4 = app_with c.in_ok-arg-3.field-0 c.in_ok-arg-4.field-0 c.salvage_arg.result app_3 salvage_rule
+    c.in_ok-arg-4.ensures c.salvage_arg.ensures.fits.1 with_3 c.salvage_arg.ensures.rule in
+    let app_4 = with_rule app_3 salvage_rule in
+    IfOk-weaker c.arg-5.result _ _ (λ command added. app_with c.in_ok-arg-4.field-0 command c.strict_arg.result app_4
+    strict_rule added c.strict_arg.ensures.fits.1 with_4 c.strict_arg.ensures.rule) c.arg-5.ensures

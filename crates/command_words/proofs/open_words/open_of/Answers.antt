@@ -1,7 +1,7 @@
 use Rattle.std.proofs.Common.{ap, codes, subst, sym, ◌∙◌}
 use Rattle.clap.specs.Words.{found_of, first_of, one_of}
-use Rattle.clap.proofs.WalkLemmas.{first_value-rows}
-use Rattle.command_words.specs.Command.{IsFramesRead, IsTold}
+use Rattle.clap.proofs.WalkLemmas.{first_value-rows, one_text-rows}
+use Rattle.command_words.specs.Command.{IsFlag, IsFramesRead, IsTold}
 use Rattle.command_words.proofs.open_words.open_of.Goals as goal
 
 pub returns-clause-ok : goal.returns-clause-ok
@@ -15,4 +15,10 @@ returns-clause-ok g c =
           c.told_pages_in-pages.ensures.read,
       subst (λ found. IsFramesRead (one_of (codes "frames") found) c.frames_in-frames.result) rows
           c.frames_in-frames.ensures.read,
+      subst (λ o. IsFlag o c.get_flag-salvage.result)
+          (one_text-rows (found_of c.in_ok-matches.matches) (codes "is_salvage") ∙ ap (one_of (codes "is_salvage")) rows)
+          (c.get_flag-salvage.ensures.none, c.get_flag-salvage.ensures.value, c.get_flag-salvage.ensures.other),
+      subst (λ o. IsFlag o c.get_flag-strict.result)
+          (one_text-rows (found_of c.in_ok-matches.matches) (codes "is_strict") ∙ ap (one_of (codes "is_strict")) rows)
+          (c.get_flag-strict.ensures.none, c.get_flag-strict.ensures.value, c.get_flag-strict.ensures.other),
     )

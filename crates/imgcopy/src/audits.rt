@@ -1,0 +1,111 @@
+//! The command `audit`.
+
+ghost use Rattle.std.specs.Prelude.{◌≡◌, ◌⊎◌, IfErr, OnOk};
+ghost use Rattle.std.specs.Process.{exit_status};
+ghost use Rattle.script_run.specs.Status.{status_of_audit};
+
+use crate::advice::{tell_audited, tell_input};
+use crate::read_once::ReadOnce;
+use crate::reasons::Named;
+use crate::{answered, told_unprinted};
+use copy_audit::{Sound, Unsound};
+use copy_vault::CopyId;
+use file_view::ViewFault;
+use page_core::PageNo;
+use saved_files::{NamedFiles, audit_files, check_master, unsound_pages};
+use script_run::{FAULT_STATUS, audit_status, restore_status};
+use std::process::ExitCode;
+use system_files::{Notes, SystemFiles};
+
+/// Audits a chain of copies against a log, and the master record first, if one is named. What reads
+/// the log twice reads it once where it is no regular file.
+pub fn audit(rt: &HostRuntime, names: &Named<'_>, all: bool) -> ExitCode {
+    let notes = Notes::new();
+    if names.master.is_none() && !all {
+        let files = SystemFiles {
+            files: rt,
+            notes: &notes,
+        };
+        return audit_in(rt, &files, names, &notes, all);
+    }
+    match ReadOnce::of(rt, names, &notes) {
+        Ok(files) => audit_in(rt, &&files, names, &notes, all),
+        Err(fault) => {
+            let fault = match fault {
+                ViewFault::OutOfMemory => Unsound::OutOfMemory,
+                _ => Unsound::ReadFault,
+            };
+            let status = answered(rt, &fault, audit_status(&fault));
+            tell_audited(rt, names, &fault, &notes);
+            status
+        }
+    }
+}
+
+fn audit_in<N: NamedFiles>(
+    rt: &HostRuntime,
+    files: &N,
+    names: &Named<'_>,
+    notes: &Notes,
+    all: bool,
+) -> ExitCode {
+    if let Some(master) = names.master {
+        if let Err(fault) = check_master(files, rt.alloc(), names.log, master) {
+            let status = answered(rt, &fault, restore_status(&fault));
+            tell_input(rt, names, &fault, notes);
+            return status;
+        }
+    }
+    let done = audit_files(files, rt.alloc(), names.log, names.archives);
+    let status = status_of_audit(rt, &done);
+    if let Err(fault) = &done {
+        tell_audited(rt, names, fault, notes);
+        if all {
+            if let Unsound::Unsound(copy, page) = fault {
+                return told_others(rt, files, names, (*copy, *page), status);
+            }
+        }
+    }
+    status
+}
+
+/// Tells the other unsound pages, each with the first copy up to which the chain has it so.
+fn told_others<N: NamedFiles>(
+    rt: &HostRuntime,
+    files: &N,
+    names: &Named<'_>,
+    first: (CopyId, PageNo),
+    status: ExitCode,
+) -> ExitCode {
+    let found = match unsound_pages(files, rt.alloc(), names.log, names.archives) {
+        Ok(found) => found,
+        Err(fault) => {
+            let _ = rt.eprintln(&fault);
+            return ExitCode::from(FAULT_STATUS);
+        }
+    };
+    for it in found.pages.as_slice() {
+        if (it.copy, it.page) != first {
+            if let Err(error) = rt.println(&Unsound::Unsound(it.copy, it.page)) {
+                return told_unprinted(rt, &error);
+            }
+        }
+    }
+    if found.has_more {
+        let _ = eprintln!(rt; "imgcopy: more pages than these are unsound");
+    }
+    status
+}
+
+/// Tells on standard output what an audit found, and answers the program's status. Where that
+/// cannot be written, it is that of a fault.
+fn status_of_audit(rt: &(impl Print + Eprint), done: &Result<Sound, Unsound>) -> ExitCode
+    ensures sound { OnOk done.now ((exit_status result ≡ 0) ⊎ (exit_status result ≡ 2)) }
+    ensures fault { IfErr done.now (λ fault. (exit_status result ≡ status_of_audit fault)
+        ⊎ (exit_status result ≡ 2)) }
+{
+    match done {
+        Ok(Sound) => answered(rt, &"sound", 0),
+        Err(fault) => answered(rt, fault, audit_status(fault)),
+    }
+}
