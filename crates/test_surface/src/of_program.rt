@@ -8,6 +8,9 @@ pub use file_view::{
 pub use saved_files::{Source, put_in_place, restore_volume_with_log, save_files};
 pub use script_advice::{BadLine, Shown};
 pub use script_run::{finish_script, run_script};
-pub use system_files::{Noted, Notes, SystemFiles, SystemFolder};
-pub use volume_folder::{OpenCall, open_folder};
+pub use system_files::{
+    ClaimFault, Escaped, EscapedText, FileIdentity, Kept, Noted, Notes, Patient, SystemFiles,
+    SystemFolder, copy_id, is_in_use, kept_at,
+};
+pub use volume_folder::{OpenCall, OpenEnd, open_folder};
 pub use volume_redo::redo_stream;

@@ -1,2 +1,4 @@
+mod CopyCalls
 mod Held
 mod Reopened
+mod Whole

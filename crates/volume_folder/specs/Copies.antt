@@ -5,9 +5,9 @@ use Rattle.image_copies.specs.Copy.{CopyView}
 use Rattle.engine_restart.specs.Added.{MayAdd}
 use Rattle.engine_restart.specs.Restart.{RestartedView}
 
--- a copy of this id that the log and the copies so far allow is there, behind them
-pub record IsTakenUp (old new : RestartedView) (id : ℕ) : Type 0 where
-  pub copy : CopyView
+-- this copy has the id of its file, the log and the copies so far allow it, and it is there, behind
+-- them
+pub record IsTakenUp (old new : RestartedView) (id : ℕ) (copy : CopyView) : Type 0 where
   pub of_id : copy.id ≡ id
   pub may : MayAdd old.log old.copies copy
   pub added : new.copies ≡ with_copy old.copies copy

@@ -1,38 +1,59 @@
 //! Why a database was not opened.
 
+use crate::evidence::Loss;
 use crate::place::Place;
-use aries_core::PlayFault;
 use engine_restart::{FoundFault, RestartFault};
 use file_devices::FailedFile;
 use page_core::FaultName;
+use saved_files::FileFault;
 use std::alloc::{AllocError, AllocFailed};
 use std::io;
 use std::io::ErrorKind;
+use system_files::ClaimFault;
 use txn_table::TablesFault;
 
-/// Why a database was not opened. Nothing in its folder was touched but what unfinished files an
-/// older life left, or the log has the records of undo at its end.
-#[derive(Clone, Copy, Debug)]
+/// Why a database was not opened. The first of these come before anything in the folder is touched;
+/// behind them come those of what an opening does.
+#[derive(Debug, Drop)]
 pub(crate) enum OpenFault {
     OutOfMemory,
+    /// The folder was not claimed.
+    Unclaimed(ClaimFault),
     /// The system did not do what was asked of this place, and has this number for why.
     System(Place, Option<i32>),
-    /// The file of the log is no regular file.
-    NoFile,
+    /// Here stands what is no regular file.
+    NoFile(Place),
+    /// The log is a link that leads nowhere.
+    LinkToNothing,
+    /// Another one has the log open, perhaps by another name.
+    LogOpen,
+    /// The file of the log has so many bytes, more than are read.
+    TooLong(u64),
     /// The file of the log has no header of a log that is written.
     Found(FoundFault),
     /// There is no log, but this is there, which no folder has that had none.
     LogLost(Place),
+    /// The log lacks records that were forced.
+    Lost(Loss),
+    /// There is no log, and something of this name is there.
+    Stranger(String),
+    /// What has the volume's name is no volume.
+    NoVolume,
     /// There is no log, and it is not told how many pages a new database has.
     NoCount,
-    /// The log is of so many pages, and so many were told.
-    OtherCount { log: u32, told: u32 },
-    /// What was open in the log could not be taken back.
-    Restart(RestartFault),
+    /// The volume has so many pages, and so many were told.
+    OtherCount { there: u32, told: u32 },
+    /// A file may have so many bytes at most, and a log may need more.
+    SmallFiles(u64),
+    /// The bytes behind the log could not be put aside, so they were not cut off.
+    NotAside(FileFault),
+    /// What was open in the log could not be taken back. The system has this number for why, if it
+    /// was a call of the log's file.
+    Restart(RestartFault, Option<i32>),
     /// There is no room to take back what was open in the log at some moment.
     NoRoom,
     /// The header of a new log could not be stored.
-    NoHeader,
+    NoHeader(Option<i32>),
 }
 
 impl OpenFault {
@@ -54,24 +75,39 @@ impl OpenFault {
         OpenFault::of(place, &why.error)
     }
 
-    /// The name of the fault in its first line, if it has one.
+    /// The name of the fault in its first line, if it has one, and what that line says is not told
+    /// otherwise.
     pub fn name(&self) -> Option<FaultName> {
         match self {
-            OpenFault::OutOfMemory => Some(FaultName::OutOfMemory),
-            OpenFault::System(Place::Log, _) | OpenFault::NoFile | OpenFault::LogLost(_) => {
-                Some(FaultName::ReadFault)
+            OpenFault::OutOfMemory
+            | OpenFault::Found(FoundFault::OutOfMemory)
+            | OpenFault::Restart(RestartFault::OutOfMemory, _) => Some(FaultName::OutOfMemory),
+            OpenFault::System(Place::Log | Place::Master | Place::Closed | Place::Copy(_), _)
+            | OpenFault::NoFile(_)
+            | OpenFault::LinkToNothing
+            | OpenFault::Found(FoundFault::ReadFault)
+            | OpenFault::LogLost(_) => Some(FaultName::ReadFault),
+            OpenFault::Unclaimed(ClaimFault::Unopened(_)) => Some(FaultName::ReadFault),
+            OpenFault::Unclaimed(ClaimFault::Busy | ClaimFault::Unlocked(_)) => {
+                Some(FaultName::WriteFault)
             }
-            OpenFault::System(Place::Volume, _) => Some(FaultName::StoreFault),
-            OpenFault::System(_, _) => Some(FaultName::WriteFault),
-            OpenFault::Found(FoundFault::OutOfMemory) => Some(FaultName::OutOfMemory),
-            OpenFault::Found(FoundFault::ReadFault) => Some(FaultName::ReadFault),
+            OpenFault::System(Place::Volume, _) | OpenFault::NoVolume => {
+                Some(FaultName::StoreFault)
+            }
+            OpenFault::System(Place::Folder, _)
+            | OpenFault::LogOpen
+            | OpenFault::NotAside(_)
+            | OpenFault::SmallFiles(_) => Some(FaultName::WriteFault),
             OpenFault::Found(_) => Some(FaultName::BadHeader),
-            OpenFault::NoCount | OpenFault::OtherCount { .. } => None,
-            OpenFault::Restart(RestartFault::OutOfMemory) => Some(FaultName::OutOfMemory),
-            OpenFault::Restart(RestartFault::LogFull) | OpenFault::NoRoom => {
+            OpenFault::TooLong(_) => Some(FaultName::TooLong),
+            OpenFault::Lost(_)
+            | OpenFault::Stranger(_)
+            | OpenFault::NoCount
+            | OpenFault::OtherCount { .. } => None,
+            OpenFault::Restart(RestartFault::LogFull, _) | OpenFault::NoRoom => {
                 Some(FaultName::LogFull)
             }
-            OpenFault::Restart(RestartFault::LogFault) | OpenFault::NoHeader => {
+            OpenFault::Restart(RestartFault::LogFault, _) | OpenFault::NoHeader(_) => {
                 Some(FaultName::LogFault)
             }
         }
@@ -90,12 +126,9 @@ impl<T: Drop> From<AllocFailed<T>> for OpenFault {
     }
 }
 
-impl From<PlayFault> for OpenFault {
-    fn from(fault: PlayFault) -> OpenFault {
-        match fault {
-            PlayFault::OutOfMemory => OpenFault::OutOfMemory,
-            PlayFault::LogFault => OpenFault::NoHeader,
-        }
+impl From<ClaimFault> for OpenFault {
+    fn from(fault: ClaimFault) -> OpenFault {
+        OpenFault::Unclaimed(fault)
     }
 }
 

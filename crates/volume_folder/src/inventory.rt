@@ -1,7 +1,7 @@
 //! What stands in a folder before it is opened.
 
 use crate::fault::OpenFault;
-use crate::names::{LOG, MASTER, VOLUME, copy_of, is_unfinished};
+use crate::names::{CLOSED, LOG, MASTER, VOLUME, copy_of, is_harmless, is_unfinished};
 use crate::place::Place;
 use copy_vault::CopyId;
 use std::path::{Path, PathBuf};
@@ -12,11 +12,14 @@ use std::{fs, io};
 pub(crate) struct Inventory {
     /// The copies, in order of their ids.
     pub copies: Vec<CopyId>,
+    pub has_master: bool,
+    pub has_closed: bool,
     /// What older lives left unfinished.
     unfinished: Vec<PathBuf>,
     has_log: bool,
     has_volume: bool,
-    has_master: bool,
+    /// The name of something that no database has.
+    pub stranger: Option<String>,
 }
 
 impl Inventory {
@@ -25,18 +28,20 @@ impl Inventory {
         let alloc = files.alloc();
         let mut there = Inventory {
             copies: Vec::new(alloc),
+            has_master: false,
+            has_closed: false,
             unfinished: Vec::new(alloc),
             has_log: false,
             has_volume: false,
-            has_master: false,
+            stranger: None,
         };
         for entry in fs::read_dir(files, folder).map_err(OpenFault::of_folder)? {
             let entry = entry.map_err(OpenFault::of_folder)?;
             let name = entry.file_name();
             if is_unfinished(name) {
                 there.unfinished.push(Path::new(folder).join(alloc, name)?)?;
-            } else {
-                there.note(name)?;
+            } else if !there.note(name)? && there.stranger.is_none() && !is_harmless(name) {
+                there.stranger = Some(String::from_str(alloc, name)?);
             }
         }
         there.copies.sort_unstable_by_key(|id| id.0);
@@ -48,27 +53,35 @@ impl Inventory {
         remove_all(files, &self.unfinished).map_err(OpenFault::of_folder)
     }
 
-    /// Notes the name of a file.
-    fn note(&mut self, name: &str) -> Result<(), OpenFault> {
+    /// Notes the name of a file. Says whether it is one of a database.
+    fn note(&mut self, name: &str) -> Result<bool, OpenFault> {
         match name {
             LOG => self.has_log = true,
             VOLUME => self.has_volume = true,
             MASTER => self.has_master = true,
-            _ => if let Some(id) = copy_of(name) {
+            CLOSED => self.has_closed = true,
+            _ => {
+                let Some(id) = copy_of(name) else {
+                    return Ok(false);
+                };
                 self.copies.push(id)?;
-            },
+            }
         }
-        Ok(())
+        Ok(true)
     }
 
     /// What says that there was a log once, where there is none now. Before a log has its header
-    /// there is no master record and no copy, and before there is a log no volume.
+    /// there is no master record, no copy and no note of a closing, and before there is a log no
+    /// volume.
     pub fn widow(&self) -> Option<Place> {
         if let Some(id) = self.copies.first() {
             return Some(Place::Copy(*id));
         }
         if self.has_master {
             return Some(Place::Master);
+        }
+        if self.has_closed {
+            return Some(Place::Closed);
         }
         if self.has_volume && !self.has_log {
             return Some(Place::Volume);

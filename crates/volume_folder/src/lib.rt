@@ -2,21 +2,36 @@
 //! It is opened, killed at any moment, and opened again.
 #![tactic(auto)]
 
+mod bad_call;
 mod begin;
+mod closed_note;
 mod copies;
 mod copy_trouble;
+mod ending;
 mod engine_files;
+mod evidence;
 mod fault;
+mod file_limit;
 mod first_line;
+mod found_copies;
+mod found_master;
 mod inventory;
+mod left_out;
 mod line_reader;
 mod log_file;
+mod made_files;
+mod moved_aside;
 mod names;
 mod open;
+mod pending;
 mod place;
-mod refused_copies;
 mod restarted;
+mod said;
 mod session;
+mod tally;
 mod told;
+mod told_store;
+mod unplaced_point;
+mod volume_file;
 
-pub use open::{OpenCall, open_folder};
+pub use open::{OpenCall, OpenEnd, open_folder};

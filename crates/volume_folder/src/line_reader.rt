@@ -19,6 +19,9 @@ pub(crate) enum NextLine {
     Line(usize),
     /// A line of more than 1,024 bytes. All of it was read.
     TooLong,
+    /// So many bytes stand behind the last line feed. They are no line: who wrote them may have
+    /// meant to write more.
+    Unended(usize),
     End,
     /// The reader failed. What it gave of a line before is no line.
     Failed,
@@ -59,7 +62,7 @@ impl<R: Read + Drop> LineReader<R> {
         self.line.as_slice().get(..len).unwrap_or(&[])
     }
 
-    /// Reads the next line, to its line feed or to the input's end.
+    /// Reads the next line, to its line feed.
     pub fn next_line(&mut self) -> NextLine {
         let mut len = 0usize;
         let mut is_long = false;
@@ -68,7 +71,8 @@ impl<R: Read + Drop> LineReader<R> {
                 NextByte::Byte(b'\n') => return line_of(len, is_long),
                 NextByte::Byte(byte) => is_long = !self.put(&mut len, byte) || is_long,
                 NextByte::End if len == 0 => return NextLine::End,
-                NextByte::End => return line_of(len, is_long),
+                NextByte::End if is_long => return NextLine::TooLong,
+                NextByte::End => return NextLine::Unended(len),
                 NextByte::Failed => return NextLine::Failed,
             }
         }

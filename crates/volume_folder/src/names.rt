@@ -11,6 +11,15 @@ pub(crate) const VOLUME: &str = "volume";
 /// The master record.
 pub(crate) const MASTER: &str = "master";
 
+/// The note of the log's end at the last clean closing.
+pub(crate) const CLOSED: &str = "closed";
+
+/// Bytes that stood behind a log, before a number.
+pub(crate) const LEFT_OUT: &str = "log.left-out-";
+
+/// The folder that a file system makes at its top.
+const LOST_AND_FOUND: &str = "lost+found";
+
 /// An image copy, before its id.
 const COPY: &str = "copy-";
 
@@ -30,12 +39,28 @@ pub(crate) fn copy_of(name: &str) -> Option<CopyId> {
     Some(CopyId(number_of(name.strip_prefix(COPY)?)?))
 }
 
-/// Whether a master record or a copy has this name as long as it is not whole.
-pub(crate) fn is_unfinished(name: &str) -> bool {
-    match name.split_once(UNFINISHED) {
-        Some((whole, number)) => {
-            number_of(number).is_some() && (whole == MASTER || copy_of(whole).is_some())
-        }
+/// Whether bytes that stood behind a log have this name.
+fn is_left_out(name: &str) -> bool {
+    match name.strip_prefix(LEFT_OUT) {
+        Some(number) => number_of(number).is_some(),
         None => false,
     }
+}
+
+/// Whether a file of a database has this name as long as it is not whole.
+pub(crate) fn is_unfinished(name: &str) -> bool {
+    match name.split_once(UNFINISHED) {
+        Some((whole, number)) => number_of(number).is_some() && is_put(whole),
+        None => false,
+    }
+}
+
+/// Whether a file of this name is written beside its name first.
+fn is_put(name: &str) -> bool {
+    name == MASTER || name == CLOSED || copy_of(name).is_some() || is_left_out(name)
+}
+
+/// Whether a new database may stand beside what has this name.
+pub(crate) fn is_harmless(name: &str) -> bool {
+    name == LOST_AND_FOUND
 }

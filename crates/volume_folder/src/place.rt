@@ -1,6 +1,6 @@
 //! What stands in a folder, as it is told to a person.
 
-use crate::names::{LOG, MASTER, VOLUME};
+use crate::names::{CLOSED, LOG, MASTER, VOLUME};
 use copy_vault::CopyId;
 use std::fmt;
 
@@ -11,6 +11,7 @@ pub(crate) enum Place {
     Log,
     Volume,
     Master,
+    Closed,
     Copy(CopyId),
 }
 
@@ -21,6 +22,7 @@ impl fmt::Display for Place {
             Place::Log => write!(f, "/{LOG}"),
             Place::Volume => write!(f, "/{VOLUME}"),
             Place::Master => write!(f, "/{MASTER}"),
+            Place::Closed => write!(f, "/{CLOSED}"),
             Place::Copy(id) => write!(f, "/copy-{number}", number = id.0),
         }
     }

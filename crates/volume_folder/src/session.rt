@@ -1,33 +1,30 @@
 //! The lines of an open database: each is a call of its engine, and is answered at once.
 
-ghost use Rattle.std.specs.Prelude.{◌≡◌, IfErr, OnOk};
-ghost use Rattle.std.specs.Io.KnownBytes.{Appends};
-ghost use Rattle.volume_folder.specs.Session.{Answers, LeavesAnswer, LeavesLine, reply_line};
+ghost use Rattle.std.specs.Prelude.{◌≡◌, IfErr, OnOk, Result};
+ghost use Rattle.engine_calls.specs.declared.event.Answer.{Answer};
+ghost use Rattle.engine_calls.specs.declared.refusal.Refusal.{Refusal};
+ghost use Rattle.engine_rules.specs.Step.{Step};
+ghost use Rattle.volume_folder.specs.Session.{Answers, IsPlain, LeavesAnswer};
 
-use crate::engine_files::{place_copy, place_master};
+use crate::bad_call::{BadCall, LineTrouble};
 use crate::line_reader::{LineReader, NextLine};
+use crate::pending::Pending;
 use crate::place::Place;
+use crate::said::{Said, write_said};
+use crate::tally::Tally;
 use crate::told::Teller;
-use aries_core::{Answer, Engine, Event, Reply};
-use copy_vault::{CopyId, CopyWriteFault};
-use event_script::{LineFault, ReplyLine, ScriptFault, read_script};
-use log_store::{LogDevice, Master};
-use page_core::{FaultName, write_out};
+use crate::unplaced_point::UnplacedPoint;
+use aries_core::{Engine, Event, Refusal};
+use copy_vault::CopyId;
+use event_script::{ScriptFault, read_script};
+use log_store::LogDevice;
+use page_core::write_out;
 use page_store::PageStore;
-use saved_files::{FileFault, Folder, PutFault};
+use saved_files::Folder;
 use std::alloc::{AllocError, Global};
+use std::io;
 use std::io::{Read, Write};
 use system_files::Notes;
-
-/// Why a line is no call.
-#[derive(Clone, Copy, Debug, PartialEq, Eq)]
-pub(crate) enum LineTrouble {
-    Bad(LineFault),
-    NoText,
-    TooLong,
-    /// It is a `restore`, which ends a script, and an open database has none.
-    Restore,
-}
 
 /// Why the lines came to an end before the input did.
 #[derive(Clone, Copy, Debug, PartialEq, Eq)]
@@ -45,6 +42,18 @@ impl From<AllocError> for ServeFault {
     }
 }
 
+/// A device that tells why its last call failed.
+pub(crate) trait TellsWhy {
+    /// Why the last call failed, as the system tells it, if it did.
+    fn why(&self) -> Option<io::Error>;
+}
+
+impl TellsWhy for file_devices::FileLog {
+    fn why(&self) -> Option<io::Error> {
+        self.error()
+    }
+}
+
 /// An open database.
 #[derive(Drop)]
 pub(crate) struct Session<'a, F: Folder, S: PageStore, D: LogDevice> {
@@ -54,6 +63,20 @@ pub(crate) struct Session<'a, F: Folder, S: PageStore, D: LogDevice> {
     pub teller: Teller<'a>,
     /// Why calls of the folder failed.
     pub notes: &'a Notes,
+    /// Why calls of the store failed.
+    pub store_notes: &'a Notes,
+    /// The copies whose files are not in place.
+    pub pending: Pending,
+    /// The checkpoint whose master record is not in place.
+    pub point: Option<UnplacedPoint>,
+    /// What stands as the master record names no checkpoint of the log.
+    pub is_master_wrong: bool,
+    /// The ids that are not given, since their files could not be read.
+    pub unread: Vec<u32>,
+    /// How the lines were answered.
+    pub tally: Tally,
+    /// Some file failed.
+    pub has_failed: bool,
 }
 
 /// What a line says: a call, or nothing.
@@ -68,37 +91,42 @@ fn said_in(alloc: Global, line: &[u8]) -> Result<Result<Option<Event>, LineTroub
     })
 }
 
-/// Writes the line of a reply, by one write where the writer takes it.
-fn write_reply<W: Write>(alloc: Global, reply: Reply, writer: &mut W) -> Result<(), ServeFault>
-    ensures ok { OnOk result
-        (Appends (W.contents writer.old) (W.contents writer.new) (reply_line reply)) }
-    ensures err { IfErr result
-        (LeavesLine (W.contents writer.old) (W.contents writer.new) (reply_line reply)) }
-{
-    let line = ReplyLine(reply);
-    let Ok(text) = format!(in alloc; "{line}\n") else {
-        return Err(ServeFault::OutOfMemory);
-    };
-    match write_out(writer, text.as_bytes()) {
-        Ok(()) => Ok(()),
-        Err(done) => Err(ServeFault::WriteFault(done)),
+/// What the last bytes of an input say, behind which no line feed stands: nothing, or something
+/// that is not made.
+fn said_unended(
+    alloc: Global,
+    line: &[u8],
+) -> Result<Result<Option<Event>, LineTrouble>, AllocError> {
+    match said_in(alloc, line)? {
+        Ok(None) => Ok(Ok(None)),
+        _ => Ok(Err(LineTrouble::Unended)),
     }
 }
 
-impl<F: Folder, S: PageStore, D: LogDevice> Session<'_, F, S, D> {
-    /// Takes the lines of the input one after another, to its end. A line that says nothing gives
-    /// nothing, and one that is bad is told.
+impl<F: Folder, S: PageStore, D: LogDevice + TellsWhy> Session<'_, F, S, D> {
+    /// Takes the lines of the input one after another, to its end. Each is answered by one line, but
+    /// for those that say nothing.
     pub fn serve<R: Read + Drop, W: Write>(
         &mut self,
         lines: &mut LineReader<R>,
         writer: &mut W,
     ) -> Result<(), ServeFault>
         requires { F.is_claimed self.old.folder }
+        ensures { F.is_claimed self.new.folder }
     {
         for number in 1..u64::MAX {
             match lines.next_line() {
-                NextLine::Line(len) => self.take_line(number, lines.line(len), writer)?,
-                NextLine::TooLong => self.teller.tell_bad_line(number, &[], LineTrouble::TooLong),
+                NextLine::Line(len) => {
+                    let line = lines.line(len);
+                    self.take_line(number, line, said_in(self.alloc, line)?, writer)?;
+                }
+                NextLine::Unended(len) => {
+                    let line = lines.line(len);
+                    self.take_line(number, line, said_unended(self.alloc, line)?, writer)?;
+                }
+                NextLine::TooLong => {
+                    self.take_line(number, &[], Err(LineTrouble::TooLong), writer)?;
+                }
                 NextLine::End => return Ok(()),
                 NextLine::Failed => return Err(ServeFault::ReadFault),
             }
@@ -106,87 +134,107 @@ impl<F: Folder, S: PageStore, D: LogDevice> Session<'_, F, S, D> {
         Ok(())
     }
 
-    /// Takes the line of this number.
+    /// Takes the line of this number, which says this.
     fn take_line<W: Write>(
         &mut self,
         number: u64,
         line: &[u8],
+        said: Result<Option<Event>, LineTrouble>,
         writer: &mut W,
     ) -> Result<(), ServeFault>
         requires { F.is_claimed self.old.folder }
         ensures claimed { F.is_claimed self.new.folder }
     {
-        match said_in(self.alloc, line)? {
-            Ok(Some(event)) => self.answer(event, writer),
+        match said {
+            Ok(Some(event)) => self.answer(number, event, writer),
             Ok(None) => Ok(()),
-            Err(why) => {
-                self.teller.tell_bad_line(number, line, why);
-                Ok(())
-            }
+            Err(why) => self.refuse_line(number, &BadCall { line, why }, writer),
+        }
+    }
+
+    /// Tells that a line is no call, to a person and to the writer.
+    fn refuse_line<W: Write>(
+        &mut self,
+        number: u64,
+        bad: &BadCall<'_>,
+        writer: &mut W,
+    ) -> Result<(), ServeFault>
+        ensures engine { self.new.engine ≡ self.old.engine }
+        ensures folder { self.new.folder ≡ self.old.folder }
+    {
+        self.tally.note(number, true);
+        let _ = eprintln!(self.teller.rt; "imgcopy: line {number}: {bad}");
+        let text = format!(in self.alloc; "bad line {number}: {bad}\n")?;
+        match write_out(writer, text.as_bytes()) {
+            Ok(()) => Ok(()),
+            Err(done) => Err(ServeFault::WriteFault(done)),
         }
     }
 
     /// Makes a call, puts in place what it made, and then writes its reply.
-    fn answer<W: Write>(&mut self, event: Event, writer: &mut W) -> Result<(), ServeFault>
+    fn answer<W: Write>(
+        &mut self,
+        number: u64,
+        event: Event,
+        writer: &mut W,
+    ) -> Result<(), ServeFault>
         requires { F.is_claimed self.old.folder }
-        ensures answered { OnOk result (Answers self.old.engine event self.new.engine
-            (W.contents writer.old) (W.contents writer.new)) }
-        ensures err { IfErr result (LeavesAnswer self.old.engine event self.new.engine
-            (W.contents writer.old) (W.contents writer.new)) }
+        ensures answered { OnOk result (IsPlain event → Answers self.old.engine event
+            self.new.engine (W.contents writer.old) (W.contents writer.new)) }
+        ensures err { IfErr result (λ fault. IsPlain event → LeavesAnswer self.old.engine event
+            self.new.engine (W.contents writer.old) (W.contents writer.new) fault) }
         ensures claimed { F.is_claimed self.new.folder }
     {
-        let reply = self.engine.apply(event);
-        if let Ok(answer) = &reply {
-            self.keep(&event, answer);
+        let said = self.made(event);
+        self.note(number, &said);
+        write_said(self.alloc, &said, writer)
+    }
+
+    /// Makes a call, and puts in place what it made.
+    fn made(&mut self, event: Event) -> Said
+        requires { F.is_claimed self.old.folder }
+        ensures plain { IsPlain event → (reply : Result Answer Refusal)
+            × Step self.old.engine.state event reply self.new.engine.state
+            × (result ≡ Said.Reply reply) }
+        ensures claimed { F.is_claimed self.new.folder }
+    {
+        match event {
+            Event::Seal(CopyId(id)) => self.seal(id),
+            Event::CkptEnd => self.end_checkpoint(),
+            Event::CopyFull => self.begin_copy(None),
+            Event::CopyInc(CopyId(parent)) => self.begin_increment(parent),
+            _ => Said::Reply(self.engine.apply(event)),
         }
-        write_reply(self.alloc, reply, writer)
     }
 
-    /// Puts in place what a call made: a copy that was sealed, or a checkpoint's master record.
-    fn keep(&mut self, event: &Event, answer: &Answer)
-        requires { F.is_claimed self.old.folder }
+    /// Takes note of an answer, and tells a person why a file failed.
+    fn note(&mut self, number: u64, said: &Said)
         ensures engine { self.new.engine ≡ self.old.engine }
-        ensures claimed { F.is_claimed self.new.folder }
+        ensures folder { self.new.folder ≡ self.old.folder }
     {
-        match answer {
-            Answer::Sealed(_) => if let Event::Seal(id) = event {
-                self.keep_copy(*id);
-            },
-            Answer::Point { begin, end, .. } => self.keep_master(Master {
-                begin: *begin,
-                end: *end,
-            }),
-            _ => {}
+        self.tally.note(number, said.is_refused());
+        if said.is_fault() {
+            self.has_failed = true;
         }
+        self.tell_fault(said);
     }
 
-    /// Puts a copy that is complete in place. Where that fails, it is told, and the engine still
-    /// has the copy.
-    fn keep_copy(&mut self, id: CopyId)
-        requires { F.is_claimed self.old.folder }
-        ensures engine { self.new.engine ≡ self.old.engine }
-        ensures claimed { F.is_claimed self.new.folder }
-    {
-        let fault = match place_copy(&mut self.folder, self.alloc, &self.engine, id) {
-            Ok(()) => return,
-            Err(PutFault::Unwritten(CopyWriteFault::Archive(why))) => FileFault::from(why),
-            Err(PutFault::Unwritten(CopyWriteFault::Refused(_))) => FileFault::OutOfMemory,
-            Err(PutFault::Unmade(fault) | PutFault::Unplaced(fault)) => fault,
-        };
-        self.teller.tell_unkept(Place::Copy(id), fault, self.notes);
-    }
-
-    /// The same of a master record.
-    pub fn keep_master(&mut self, master: Master)
-        requires { F.is_claimed self.old.folder }
-        ensures engine { self.new.engine ≡ self.old.engine }
-        ensures claimed { F.is_claimed self.new.folder }
-    {
-        match place_master(&mut self.folder, self.alloc, master) {
-            Ok(()) => {}
-            Err(PutFault::Unwritten(why) | PutFault::Unmade(why) | PutFault::Unplaced(why)) => {
-                self.teller.tell_unkept(Place::Master, why, self.notes);
+    /// Tells which of the database's files failed, and why.
+    pub(crate) fn tell_fault(&self, said: &Said) {
+        match said {
+            Said::Reply(Err(Refusal::StoreFault)) => self.teller.tell_failed(
+                Place::Volume,
+                self.store_notes.error(),
+                "it has something else than was written",
+            ),
+            Said::Reply(Err(Refusal::LogFault | Refusal::CommitUnsure(_))) => {
+                self.teller.tell_failed(
+                    Place::Log,
+                    self.engine.log().device().why(),
+                    "it took less than was written",
+                );
             }
+            Said::Reply(_) | Said::Unplaced(_) => {}
         }
     }
 }

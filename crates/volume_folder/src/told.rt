@@ -1,19 +1,18 @@
 //! Lines for a person on standard error.
 
+use crate::evidence::Loss;
 use crate::fault::OpenFault;
-use crate::line_reader::MOST_LINE;
 use crate::place::Place;
-use crate::session::{LineTrouble, ServeFault};
+use crate::session::ServeFault;
+use engine_restart::{FoundFault, RestartFault};
 use log_front::{Cut, CutReason};
+use log_records::MAX_LOG_BYTES;
+use log_store::LogReadFault;
 use page_core::FaultName;
 use saved_files::FileFault;
-use script_advice::BadLine;
 use std::fmt::Display;
 use std::io;
-use system_files::Notes;
-
-/// The number that the system has for what another one has locked.
-const IS_LOCKED: i32 = 11;
+use system_files::{Escaped, Notes};
 
 /// Tells on standard error what befalls a folder.
 #[derive(Clone, Copy)]
@@ -22,28 +21,49 @@ pub(crate) struct Teller<'a> {
     pub folder: &'a str,
 }
 
+/// Why the bytes behind a log are left out.
+fn reason_of(cut: &Cut) -> &'static str {
+    match cut.why {
+        CutReason::Torn => "they are less than a record",
+        CutReason::BadRecord => "no record begins there",
+        CutReason::BadChain => "the record there may not follow those before it",
+        CutReason::TooLong => "a log has no more records",
+    }
+}
+
 impl Teller<'_> {
     /// Tells this of a place in the folder.
     pub fn tell(&self, place: Place, why: &impl Display) {
-        let folder = self.folder;
+        let folder = Escaped(self.folder);
         let _ = eprintln!(self.rt; "imgcopy: {folder}{place}: {why}");
     }
 
-    /// Tells that the bytes behind a log were left out, of a file of so many.
-    pub fn tell_cut(&self, cut: &Cut, len: u64) {
-        let (folder, at) = (self.folder, cut.at.0);
-        let count = len.saturating_sub(at);
+    /// Tells that the bytes behind a log are left out, which are so many.
+    pub fn tell_cut(&self, cut: &Cut, count: usize) {
+        let at = cut.at.0;
         let bytes = if count == 1 { "byte" } else { "bytes" };
         let were = if count == 1 { "was" } else { "were" };
-        let why = match cut.why {
-            CutReason::Torn => "they are less than a record",
-            CutReason::BadRecord => "no record begins there",
-            CutReason::BadChain => "the record there may not follow those before it",
-            CutReason::TooLong => "a log has no more records",
-        };
-        let _ = eprintln!(self.rt;
-            "imgcopy: {folder}/log: {count} {bytes} behind {at} {were} left out: {why}"
+        let why = reason_of(cut);
+        self.tell(
+            Place::Log,
+            &format_args!("{count} {bytes} behind {at} {were} left out: {why}"),
         );
+    }
+
+    /// Tells what a log lacks, and what knows of it.
+    pub fn tell_loss(&self, loss: &Loss) {
+        let end = loss.end.0;
+        match &loss.cut {
+            Some(cut) => {
+                let why = reason_of(cut);
+                self.tell(Place::Log, &format_args!("the log ends at {end}: {why}"));
+            }
+            None => self.tell(Place::Log, &format_args!("the log ends at {end}")),
+        }
+        for claim in loss.claims.as_slice() {
+            let (witness, at) = (claim.witness, claim.at.0);
+            self.tell(Place::Folder, &format_args!("{witness} {at}"));
+        }
     }
 
     /// Tells that a file was not written.
@@ -56,21 +76,13 @@ impl Teller<'_> {
         }
     }
 
-    /// Tells what is wrong with the line of this number.
-    pub fn tell_bad_line(&self, number: u64, line: &[u8], why: LineTrouble) {
-        let _ = match why {
-            LineTrouble::Bad(why) => {
-                let why = BadLine::of(why, line, 1);
-                eprintln!(self.rt; "imgcopy: line {number}: {why}")
-            }
-            LineTrouble::NoText => eprintln!(self.rt; "imgcopy: line {number}: not UTF-8"),
-            LineTrouble::TooLong => {
-                eprintln!(self.rt; "imgcopy: line {number}: over {MOST_LINE} bytes")
-            }
-            LineTrouble::Restore => {
-                eprintln!(self.rt; "imgcopy: line {number}: an open database has no `restore`")
-            }
-        };
+    /// Tells why a call of a file failed, as the system says it, or this where the system says
+    /// nothing.
+    pub fn tell_failed(&self, place: Place, error: Option<io::Error>, otherwise: &str) {
+        match error {
+            Some(error) => self.tell(place, &error),
+            None => self.tell(place, &otherwise),
+        }
     }
 
     /// Tells why the lines came to an end before the input did.
@@ -95,8 +107,8 @@ impl Teller<'_> {
     }
 
     /// Tells why the folder was not opened: the name of the fault, if it has one, and a line that
-    /// says where and why.
-    pub fn tell_fault(&self, fault: &OpenFault) {
+    /// says where and why. The notes are those of the folder.
+    pub fn tell_fault(&self, fault: &OpenFault, notes: &Notes) {
         if let Some(name) = fault.name() {
             let _ = match name {
                 FaultName::WriteFault => eprintln!(self.rt; "{name} 0"),
@@ -104,42 +116,107 @@ impl Teller<'_> {
             };
         }
         match fault {
+            OpenFault::Unclaimed(why) => self.tell(Place::Folder, why),
             OpenFault::System(place, code) => self.tell_system(*place, *code),
-            OpenFault::NoFile => self.tell(Place::Log, &"this is no regular file"),
-            OpenFault::Found(_) => self.tell(Place::Log, &"it has no header of a log of format 2"),
-            OpenFault::LogLost(place) => {
-                let file = *place;
-                self.tell(file, &"this is there, but no log");
+            OpenFault::Lost(loss) => self.tell_lost(loss),
+            OpenFault::LogLost(place) => self.tell(*place, &"this is there, but no log"),
+            OpenFault::NotAside(why) => match notes.error() {
+                Some(error) => self.tell_not_aside(&error),
+                None => self.tell_not_aside(why),
+            },
+            OpenFault::Restart(RestartFault::LogFault, code) | OpenFault::NoHeader(code) => {
+                self.tell_system(Place::Log, *code);
             }
+            fault => self.tell_refused(fault),
+        }
+    }
+
+    fn tell_not_aside(&self, why: &impl Display) {
+        self.tell(
+            Place::Log,
+            &format_args!("what stands behind it was not put aside: {why}"),
+        );
+    }
+
+    /// The same of what stands in a folder and is refused.
+    fn tell_refused(&self, fault: &OpenFault) {
+        match fault {
+            OpenFault::NoFile(place) => self.tell(*place, &"this is no regular file"),
+            OpenFault::LinkToNothing => self.tell(Place::Log, &"this is a link that leads nowhere"),
+            OpenFault::LogOpen => self.tell(Place::Log, &"another one has this log open"),
+            OpenFault::TooLong(count) => {
+                self.tell(
+                    Place::Log,
+                    &format_args!("it has {count} bytes, and a log {MAX_LOG_BYTES} at most"),
+                );
+            }
+            OpenFault::Found(FoundFault::BadHeader | FoundFault::OldFormat) => {
+                self.tell(Place::Log, &"it has no header of a log of format 2");
+            }
+            OpenFault::NoVolume => self.tell(
+                Place::Volume,
+                &"this is no volume, and would be replaced: move it away",
+            ),
             OpenFault::NoCount => self.tell(
                 Place::Folder,
                 &"there is no log: name the page count of a new database by --pages",
             ),
-            OpenFault::OtherCount { log, told } => {
-                self.tell_count(*log, *told);
+            OpenFault::OtherCount { there, told } => self.tell_count(*there, *told),
+            OpenFault::Stranger(name) => self.tell_stranger(name.as_str()),
+            OpenFault::SmallFiles(most) => {
+                self.tell(
+                    Place::Folder,
+                    &format_args!(
+                        "files may have {most} bytes here, and a log {MAX_LOG_BYTES}: raise the limit"
+                    ),
+                );
             }
             OpenFault::NoRoom => self.tell(Place::Log, &"no engine has made such a log"),
-            OpenFault::OutOfMemory | OpenFault::Restart(_) | OpenFault::NoHeader => {}
+            OpenFault::OutOfMemory
+            | OpenFault::Found(FoundFault::OutOfMemory)
+            | OpenFault::Restart(RestartFault::OutOfMemory, _) => {
+                self.tell(Place::Folder, &"there is not enough memory to open it");
+            }
+            _ => {}
         }
     }
 
-    fn tell_count(&self, log: u32, told: u32) {
-        let pages = if log == 1 { "page" } else { "pages" };
+    /// Tells that a log lacks what was forced, so that it is not opened.
+    fn tell_lost(&self, loss: &Loss) {
+        let fault = match &loss.cut {
+            Some(cut) => cut.fault(),
+            None => LogReadFault::BadChain(loss.end),
+        };
+        let _ = self.rt.eprintln(&fault);
+        self.tell_loss(loss);
+        self.tell(
+            Place::Folder,
+            &"records that were forced are missing, and nothing was changed: keep a copy of the folder; --salvage opens what is left",
+        );
+    }
+
+    fn tell_count(&self, there: u32, told: u32) {
+        let pages = if there == 1 { "page" } else { "pages" };
         self.tell(
             Place::Log,
-            &format_args!("it was made with {log} {pages}, and --pages says {told}"),
+            &format_args!("its volume has {there} {pages}, and --pages says {told}"),
+        );
+    }
+
+    fn tell_stranger(&self, name: &str) {
+        let name = Escaped(name);
+        self.tell(
+            Place::Folder,
+            &format_args!(
+                "there is no log, but `{name}`: name an empty folder, or one with a database"
+            ),
         );
     }
 
     fn tell_system(&self, place: Place, code: Option<i32>) {
-        let Some(code) = code else {
-            self.tell(place, &"this cannot be done");
-            return;
-        };
-        if code == IS_LOCKED && place == Place::Folder {
-            self.tell(place, &"another one has this folder open");
-            return;
+        match code {
+            Some(code) => self.tell(place, &io::Error::from_raw_os_error(code)),
+            None => self.tell(place, &"this cannot be done"),
         }
-        self.tell(place, &io::Error::from_raw_os_error(code));
     }
 }

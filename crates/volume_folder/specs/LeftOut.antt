@@ -1,0 +1,14 @@
+-- Bytes behind a log that are put aside.
+use Rattle.std.specs.Prelude.{ℕ, ◌≡◌, ◌≢◌, ◌≤◌, List, length, Option}
+use Rattle.std.specs.List.{Any}
+use Rattle.log_records.specs.declared.limits.TheConstants.{RECORD_BYTES}
+use Rattle.saved_files.specs.Folder.{Changes, Entries, Puts}
+
+-- they are as many as a record has, and not zeros alone
+pub record IsWorthKeeping (bytes : List ℕ) : Type 0 where
+  pub enough : RECORD_BYTES ≤ length bytes
+  pub some : Any (λ byte. byte ≢ 0) bytes
+
+-- a file of a folder has just these bytes, stored, under some name; every other name is as before
+abbrev pub IsKept : Option Entries → List ℕ → Option Entries → Type 0
+IsKept old bytes new = (name : List ℕ) × Changes (Puts name (λ it. it ≡ bytes)) old new
