@@ -110,7 +110,8 @@ check_commands() {
     check_fault "E33 ReadFault" "restore day/log none" "imgcopy: none (master record): No such file or directory*"
     # Files of another run are named, and the run goes well.
     : > "$work/day/copy-7"
-    "$program" run --save="$work/day" --pages=1 < /dev/null > "$work/out" 2> "$work/err" || fail "run --save: status $?"
+    "$program" run --force --save="$work/day" --pages=1 < /dev/null > "$work/out" 2> "$work/err" ||
+        fail "run --save --force: status $?"
     [ "$(cat "$work/err")" = "imgcopy: $work/day: not of this run: copy-7" ] ||
         fail "run --save beside copy-7: standard error '$(cat "$work/err")'"
 }
@@ -130,10 +131,11 @@ check_audit() {
 
 # The day of the example, whose copies are sound; then with files left out, cut, or changed.
 check_audits() {
-    "$program" run --save="$work/day" --pages=3 < "$examples/day.script" > "$work/out" || fail "run of the day: $?"
+    "$program" run --force --save="$work/day" --pages=3 < "$examples/day.script" > "$work/out" ||
+        fail "run of the day: $?"
     check_audit 0 sound "" log copy-1 copy-2 copy-3
     check_audit 0 sound "" log copy-1
-    check_audit 1 "E37 ChainBroken 0" "" log
+    check_audit 1 "E37 ChainBroken 0" "imgcopy: no image copy is named: *" log
     check_audit 1 "E37 ChainBroken 3" "imgcopy: copy-3 (image copy): parent is copy 2, but copy 1 stands before it" \
         log copy-1 copy-3
     check_audit 2 "E33 ReadFault" "imgcopy: none (log): No such file or directory*" none copy-1
@@ -267,7 +269,21 @@ check_refused "error: " "--pages <N>" "$run" run --frames=1
 check_refused "error: " "'--sync'" "$run" run --pages=1 --sync=1
 check_refused Play "65536 if not given" "$run" run --help
 check_refused Play --save "$run" run --help
+check_refused "error: " "--output <FILE>" "$redo" redo --force
+for words in "run --help" "redo --help" "restore --help"; do
+    # shellcheck disable=SC2086  # the words are apart
+    check_refused "" --force Usage: $words
+done
+check_version() {
+    "$program" "$@" > "$work/out" 2> "$work/err" < /dev/null || fail "the words '$*': status $?"
+    [ "$(cat "$work/out")" = "imgcopy 0.2.0" ] || fail "the words '$*': '$(cat "$work/out")'"
+    [ ! -s "$work/err" ] || fail "the words '$*': there is an error"
+}
+check_version --version
+check_version -V
 open='Usage: imgcopy open'
+check_refused Open --salvage "$open" open --help
+check_refused Open --strict "$open" open --help
 check_refused "error: " "<FOLDER>" "$open" open
 for pages in --pages=0 --pages=65537 --pages=x --pages=; do
     check_refused "error: " "--pages <N>" --help open folder "$pages"

@@ -1,6 +1,6 @@
 """Builds the key-value store of `examples/kv` outside of the repository, kills it, and runs it again in what it left.
 
-usage: python3 -m checks.kv PROGRAM [KILLS]
+usage: python3 -m checks.kv PROGRAM [KILLS] LIBRARY
        python3 -m checks.kv --can     says by its status whether the crates are proved on this machine
 
 The crates that the store stands on are copied into a root of their own, and `rt ci` proves the store there. What it has
@@ -11,7 +11,10 @@ proved of these crates on this machine it does not prove again; where it has not
   which it was not told.
 - Key 0 has the count of all puts, with those of which it was not told. So no put is there by half.
 
-In the end it runs to its end and settles, and the program for files says that the copy there restores the log.
+In the end it runs to its end and settles, and the program for files says that the copy there restores the log. Where the
+log is then lost beside its copy, or a part of one, the store is refused, and the copy stays. LIBRARY is file_calls.rs,
+built: it notes the calls of a new store, and by the rules of bank_calls.py the names of its files last before it tells
+anything.
 """
 
 import os
@@ -24,6 +27,7 @@ import tempfile
 import time
 from pathlib import Path
 
+from checks.bank_calls import Disk, Trace
 from checks.bank_files import Failure, program_of
 
 ROOT = Path(__file__).resolve().parent.parent
@@ -137,13 +141,43 @@ class Store:
         self.told, self.count = found, self.count + untold
 
 
+def check_lost_log(program, folder):
+    """The log of a store that ran is lost, and then also the name of its copy."""
+    (folder / "log").unlink()
+    for name in ("copy", "copy.new"):
+        before = {path.name: path.read_bytes() for path in folder.iterdir()}
+        done = subprocess.run([program, folder, "1"], capture_output=True, text=True, timeout=MOST_SECONDS)
+        after = {path.name: path.read_bytes() for path in folder.iterdir()}
+        if done.returncode == 0 or "no log" not in done.stderr or after != before:
+            raise Failure(f"a store with {name} and no log: status {done.returncode}, {done.stdout[:100]!r},"
+                          f" {done.stderr!r}, {sorted(after)}")
+        if name == "copy":
+            (folder / name).rename(folder / "copy.new")
+
+
+def check_names(program, folder, library):
+    """What a new store has made, as it tells its first line, has names that last."""
+    folder.mkdir()
+    noted = folder.with_suffix(".trace")
+    environment = os.environ | {"LD_PRELOAD": library, "CALLS_FOLDER": str(folder), "CALLS_TRACE": str(noted)}
+    done = subprocess.run([program, folder, "1"], env=environment, capture_output=True, text=True, timeout=MOST_SECONDS)
+    trace = Trace(noted.read_bytes(), folder, {})
+    disk, first = Disk(trace), [call.word for call in trace.calls].index("tell")
+    for call in trace.calls[:first]:
+        disk.take(call)
+    if done.returncode != 0 or "log" not in disk.entries or disk.names:
+        raise Failure(f"a new store: status {done.returncode}, {done.stderr!r}; as it tells its first line these names"
+                      f" last: {sorted(disk.entries)}")
+
+
 def main(arguments):
     if arguments == ["--can"]:
         sys.exit(0 if is_kept() else 1)
     try:
-        if not 1 <= len(arguments) <= 2 or not all(number.isdigit() for number in arguments[1:]):
-            raise Failure("usage: python3 -m checks.kv PROGRAM [KILLS]")
-        imgcopy, kills = program_of(arguments[0]), int((arguments[1:] or [KILLS])[0])
+        if not 2 <= len(arguments) <= 3 or not all(number.isdigit() for number in arguments[1:-1]):
+            raise Failure("usage: python3 -m checks.kv PROGRAM [KILLS] LIBRARY")
+        imgcopy, library = program_of(arguments[0]), os.path.abspath(arguments[-1])
+        kills = int((arguments[1:-1] or [KILLS])[0])
         draw = random.Random(1)
         with tempfile.TemporaryDirectory() as name:
             program, folder = build(Path(name)), Path(name) / "store"
@@ -156,6 +190,8 @@ def main(arguments):
                                    timeout=MOST_SECONDS)
             if audit.stdout != "sound\n":
                 raise Failure(f"the copy: {audit.stdout!r}, {audit.stderr!r}")
+            check_lost_log(program, folder)
+            check_names(program, Path(name) / "new", library)
     except (Failure, OSError, subprocess.SubprocessError) as failure:
         sys.exit(f"kv.py: {failure}")
     print(f"ok kv: after each of {kills} kills each of {puts} puts is there that was told, and none is there by half")

@@ -111,7 +111,7 @@ def check_files(restorer, what, given, is_sound):
         restorer.see(f"{what}, its log audited", restorer.answer("audit", "l", *given.archives), Answer(0, b"sound\n"))
         restorer.see(f"{what}, the model's audit", audit_files(after, archives), Answer(0, b"sound\n"))
         # The log is put into its own place.
-        words = ["restore", "-o", "v", "--log-out", "l", "l", given.master, *given.archives]
+        words = ["restore", "--force", "-o", "v", "--log-out", "l", "l", given.master, *given.archives]
         restorer.see(f"{what}, restored from its log", restorer.answer(*words), Answer(0))
         restorer.see(f"{what}, the outputs of that", restorer.outputs(), {"v": volume, "l": after})
 
@@ -217,7 +217,8 @@ def check_ways(restorer, given):
 
 
 def check_kills(restorer, given):
-    """The program is killed: the log is put in place first, and the same command can be run again."""
+    """The program is killed: the log is put in place first. The same command can be run again, and once the new log is in
+    place it needs --force, since it would replace a log."""
     new = {"v": answer_of(restore_files, *given.contents()).output, "l": log_after_undo(given.files["log"])}
     states = [OLD, {**OLD, "l": new["l"]}, new]
     words = ["restore", "-o", "v", "--log-out", "l", *given.words()]
@@ -237,7 +238,14 @@ def check_kills(restorer, given):
         if left not in states:
             raise Failure(f"kill {kill + 1}: an output is neither the old one nor the new one, or the volume came first")
         counts[states.index(left)] += 1
-        restorer.see(f"kill {kill + 1}, and then all is well", restorer.answer(*words), Answer(0))
+        again = words
+        if left["l"] == new["l"]:
+            restorer.see(f"kill {kill + 1}, over the new log", restorer.answer(*words),
+                         Answer(2, b"", b"E29 WriteFault 0\n"))
+            restorer.see(f"kill {kill + 1}, over the new log, the outputs",
+                         {name: (restorer.folder / name).read_bytes() for name in OLD}, left)
+            again = ["restore", "--force", *words[1:]]
+        restorer.see(f"kill {kill + 1}, and then all is well", restorer.answer(*again), Answer(0))
         left = {name: (restorer.folder / name).read_bytes() for name in OLD}
         restorer.see(f"kill {kill + 1}, and then all is well, the outputs", left, new)
     return counts

@@ -69,28 +69,36 @@ def check_new(program):
     program.check("a new database", program.run(folder, "--pages", "4"), 0, "new: 4 pages\n")
     program.check("again", program.run(folder), 0, "restarted: log cut at 64, 0 transactions taken back, 0 records\n")
     program.refuse("another count", folder, ["--pages", "5"],
-                   f"imgcopy: {folder}/log: it was made with 4 pages, and --pages says 5")
+                   f"imgcopy: {folder}/log: its volume has 4 pages, and --pages says 5")
     program.check("the same count", program.run(folder, "--pages", "4"), 0,
                   "restarted: log cut at 64, 0 transactions taken back, 0 records\n")
+    program.check("a growth", program.run(folder, data=b"extend 6\n"), 0,
+                  "restarted: log cut at 64, 0 transactions taken back, 0 records\nlsn 64\n")
+    program.refuse("the count before a growth", folder, ["--pages", "4"],
+                   f"imgcopy: {folder}/log: its volume has 6 pages, and --pages says 4")
+    program.check("the present count", program.run(folder, "--pages", "6"), 0,
+                  "restarted: log cut at 128, 0 transactions taken back, 1 record\n")
     for data in (b"", b"AIMGLOG2", bytes(63), bytes(64)):
         folder = program.folder(log=data)
         program.check(f"a log of {len(data)} bytes", program.run(folder, "--pages", "1"), 0, "new: 1 page\n")
         if contents(folder)["log"] != encode_header(1):
             raise Failure(f"a log of {len(data)} bytes was not made anew")
     missing = program.place / "missing"
-    program.refuse("a folder that is not there", missing, ["--pages", "1"], "E29 WriteFault 0",
+    program.refuse("a folder that is not there", missing, ["--pages", "1"], "E33 ReadFault",
                    f"imgcopy: {missing}: {NOT_THERE}")
 
 
 def check_refusals(program):
     for what, data in (("other bytes", b"x" * 64), ("a text", b"a text of another program\n" * 9),
-                       ("an archive", ARCHIVE_MAGIC + bytes(56)), ("a log of the first format", encode_header(2, b"AIMGLOG1")), ("no pages", encode_header(0)),
+                       ("an archive", ARCHIVE_MAGIC + bytes(56)), ("no pages", encode_header(0)),
+                       ("a log of the first format", encode_header(2, b"AIMGLOG1")),
                        ("65 zero bytes", bytes(65))):
         folder = program.folder(log=data)
         program.refuse(f"{what} as the log", folder, ["--pages", "2"], "E30 BadHeader",
                        f"imgcopy: {folder}/log: it has no header of a log of format 2")
     for files, name in (({"copy_3": b"", "copy_12": b""}, "copy-3"), ({"master": b""}, "master"),
-                        ({"volume": b""}, "volume"), ({"log": b"", "copy_1": b"x"}, "copy-1"), ({"log": bytes(64), "master": b"x"}, "master")):
+                        ({"volume": b""}, "volume"), ({"closed": b"64\n"}, "closed"),
+                        ({"log": b"", "copy_1": b"x"}, "copy-1"), ({"log": bytes(64), "master": b"x"}, "master")):
         folder = program.folder(**files)
         program.refuse(f"{sorted(files)} and no log", folder, ["--pages", "2"], "E33 ReadFault",
                        f"imgcopy: {folder}/{name}: this is there, but no log")
@@ -103,10 +111,33 @@ def check_refusals(program):
     program.refuse("a pipe as the log", folder, ["--pages", "2"], "E33 ReadFault",
                    f"imgcopy: {folder}/log: this is no regular file")
     folder = program.folder()
-    (folder / "volume").mkdir()
-    (folder / "log").touch()
-    program.check("a folder as the volume", program.run(folder, "--pages", "2"), 2, "", "E22 StoreFault",
-                  f"imgcopy: {folder}/volume: Is a directory (os error 21)")
+    (folder / "log").symlink_to("nowhere")
+    program.refuse("a link that leads nowhere as the log", folder, ["--pages", "2"], "E33 ReadFault",
+                   f"imgcopy: {folder}/log: this is a link that leads nowhere")
+    folder = program.folder(notes=b"of somebody else")
+    program.refuse("a folder with other things", folder, ["--pages", "2"],
+                   f"imgcopy: {folder}: there is no log, but `notes`: name an empty folder, or one with a database")
+    for log in (b"", encode_header(2)):
+        check_volumes(program, log)
+
+
+def check_volumes(program, log):
+    """What has the volume's name is neither followed nor replaced, if it is no volume."""
+    no_file = "E33 ReadFault", "this is no regular file"
+    for what, make, (fault, why) in (
+            ("a folder", lambda path: path.mkdir(), no_file), ("a pipe", os.mkfifo, no_file),
+            ("a link", lambda path: path.symlink_to("other"), no_file),
+            ("a text", lambda path: path.write_bytes(b"some text\n"),
+             ("E22 StoreFault", "this is no volume, and would be replaced: move it away"))):
+        folder = program.folder(log=log)
+        make(folder / "volume")
+        program.refuse(f"{what} as the volume", folder, ["--pages", "2"], fault, f"imgcopy: {folder}/volume: {why}")
+    for data in (b"", bytes(3), bytes(1024), Page(0).encode()[:100], Page(0).encode() * 3):
+        folder = program.folder(log=log, volume=data)
+        done = program.run(folder, "--pages", "2")
+        if done.returncode != 0 or contents(folder)["volume"] != Page(0).encode() + Page(1).encode():
+            raise Failure(f"a volume of {len(data)} bytes is not made anew")
+        program.checks += 1
 
 
 def check_claim(program):
@@ -142,7 +173,7 @@ def check_copies(program):
     script = b"begin\nset 1 0 0 5\ncommit 1\nwbegin 0\nwend 0\n" + CHECKPOINT + FULL_COPY
     done = program.run(base, "--pages", "2", data=script)
     files = contents(base)
-    if done.returncode != 0 or done.stderr or sorted(files) != ["copy-1", "log", "master", "volume"]:
+    if done.returncode != 0 or done.stderr or sorted(files) != ["closed", "copy-1", "log", "master", "volume"]:
         raise Failure(f"a database with a copy: {done!r:.300}")
     log, copy, begin = files["log"], files["copy-1"], 256
     other = bytearray(copy)
@@ -151,24 +182,29 @@ def check_copies(program):
         (b"", "no archive begins like this"), (copy[:-1], "no page of the archive stands at 576"),
         (copy[:576], "it has not as many pages as its header says"),
         (copy + b"x", "it has not as many pages as its header says"),
-        (archive(number=2), "it is copy 2"), (archive(begin=64 * 99), "it did not begin in this log"),
+        (archive(number=2), "it is copy 2"),
         (archive(pages=3), "it did not begin in this log"), (bytes(other), "page 0 is not what the log made of it"),
         (archive(begin=begin, redo=begin), "page 0 is not what the log made of it"),
     ]
     line = "restarted: log cut at 384, 0 transactions taken back, 5 records\n"
     for data, why in reasons:
         folder = program.folder(log=log, copy_1=data)
-        program.check(f"a copy: {why}", program.run(folder), 0, line, f"imgcopy: {folder}/copy-1: {why}",
-                      f"imgcopy: {folder}/copy-1: it is now copy-1.refused")
-        if (folder / "copy-1").exists() or (folder / "copy-1.refused").read_bytes() != data:
+        program.check(f"a copy: {why}", program.run(folder), 0, line, f"imgcopy: {folder}/copy-1: {why}")
+        if (folder / "copy-1").read_bytes() != data or (folder / "copy-1.refused").exists():
+            raise Failure(f"a copy: {why}: it has another name, though its id was not given")
+        program.check(f"the id of a copy: {why}", program.run(folder, data=FULL_COPY), 0,
+                      line + "copy 1\ntaken 128\ntaken 0\nsealed 2\n", f"imgcopy: {folder}/copy-1: {why}",
+                      f"imgcopy: {folder}/copy-1: what stood there is now copy-1.refused")
+        if (folder / "copy-1").read_bytes() == data or (folder / "copy-1.refused").read_bytes() != data:
             raise Failure(f"a copy: {why}: it has not its other name")
     folder = program.folder(log=log, copy_1=copy, copy_2=archive(number=2, parent=1, bodies=[]),
                             copy_4=archive(number=4, parent=3, bodies=[]), copy_2000=copy)
     (folder / "copy-4.refused").touch()
-    program.check("a chain", program.run(folder, data=b"inc 2\n"), 0, line + "copy 3\n",
+    program.check("a chain", program.run(folder, data=b"inc 2\ninc 2\ntake 4 0\ntake 4 1\nseal 4\n"), 0,
+                  line + "copy 3\ncopy 4\ntaken 128\nkept\nsealed 1\n",
                   f"imgcopy: {folder}/copy-4: the copy that it stands on was not taken up",
                   f"imgcopy: {folder}/copy-2000: it is copy 1",
-                  f"imgcopy: {folder}/copy-4: it is now copy-4.refused-2")
+                  f"imgcopy: {folder}/copy-4: what stood there is now copy-4.refused-2")
     folder = program.folder(log=log, copy_1=b"spoiled", copy_3=archive(number=3, begin=begin, redo=64))
     program.check("a spoiled copy below a sound one", program.run(folder, data=b"full\n"), 0, line + "copy 4\n",
                   f"imgcopy: {folder}/copy-1: no archive begins like this")
@@ -178,34 +214,40 @@ def check_copies(program):
     os.mkfifo(folder / "copy-1")
     (folder / "copy-2").mkdir()
     (folder / "copy-3").symlink_to("nowhere")
-    program.check("copies that are no files", program.run(folder), 0, line,
-                  f"imgcopy: {folder}/copy-1: this is no regular file",
-                  f"imgcopy: {folder}/copy-2: this is no regular file", f"imgcopy: {folder}/copy-3: {NOT_THERE}",
-                  *(f"imgcopy: {folder}/copy-{number}: it is now copy-{number}.refused" for number in (1, 2, 3)))
+    told = (f"imgcopy: {folder}/copy-1: this is no regular file", f"imgcopy: {folder}/copy-2: this is no regular file",
+            f"imgcopy: {folder}/copy-3: {NOT_THERE}")
+    program.check("copies that are no files", program.run(folder), 0, line, *told)
+    program.check("the ids of copies that cannot be read", program.run(folder, data=b"full\nfull\n"), 0,
+                  line + "copy 4\ncopy 5\n", *told)
+    if not all(os.path.lexists(folder / f"copy-{number}") for number in (1, 2, 3)):
+        raise Failure("a copy that cannot be read has another name")
     folder = program.folder(log=log, copy_1=copy)
-    for name in ("copy-2.unfinished-1", "master.unfinished-7", "copy-1.unfinished", "log.unfinished-1"):
+    for name in ("copy-2.unfinished-1", "master.unfinished-7", "closed.unfinished-1", "log.left-out-2.unfinished-1",
+                 "copy-1.unfinished", "log.unfinished-1"):
         (folder / name).touch()
     program.check("unfinished files", program.run(folder), 0, line)
-    if sorted(contents(folder)) != ["copy-1", "copy-1.unfinished", "log", "log.unfinished-1", "master", "volume"]:
+    left = ["closed", "copy-1", "copy-1.unfinished", "log", "log.unfinished-1", "master", "volume"]
+    if sorted(contents(folder)) != left:
         raise Failure(f"unfinished files: {sorted(contents(folder))}")
     check_unwritten(program, log, copy)
 
 
 def check_unwritten(program, log, copy):
-    """Where a copy or a master record cannot be put in place, that is told, and the database goes on."""
+    """A folder as the master record gets another name, and so does one that is misspelt."""
     folder = program.folder(log=log)
     (folder / "master").mkdir()
     (folder / "master" / "x").touch()
-    script = FULL_COPY + b"inc 1\ntake 2 0\ntake 2 1\nseal 2\n"
-    (folder / "copy-2.refused").touch()
-    done = program.run(folder, data=script)
-    said = done.stderr.decode()
-    if done.returncode != 0 or not said.startswith(f"imgcopy: {folder}/master: not written: "):
-        raise Failure(f"a folder as the master record: {done.returncode}, {said!r:.300}")
-    wanted = ["copy-1", "copy-2", "copy-2.refused", "log", "volume"]
-    if sorted(contents(folder)) != wanted or contents(folder)["copy-1"] != copy:
-        raise Failure(f"the copies of a folder without a master record: {sorted(contents(folder))}")
-    program.checks += 1
+    moved = f"imgcopy: {folder}/master: what stood there is now master.refused"
+    line = "restarted: log cut at 384, 0 transactions taken back, 5 records\n"
+    program.check("a folder as the master record", program.run(folder), 0, line, moved)
+    master = (folder / "master").read_bytes()
+    if not (folder / "master.refused" / "x").exists() or master[:8] != b"AIMGMST1":
+        raise Failure("a folder as the master record has not its other name")
+    (folder / "master").write_bytes(b"x" + master[1:])
+    program.check("a master record that is misspelt", program.run(folder), 0, line, moved + "-2")
+    if (folder / "master.refused-2").read_bytes() != b"x" + master[1:] or (folder / "master").read_bytes() != master:
+        raise Failure("a master record that is misspelt has not its other name")
+    program.check("a master record that is right", program.run(folder), 0, line)
 
 
 def check_lines(program):
@@ -216,8 +258,24 @@ def check_lines(program):
     errors = ["line 6: `begin` takes 0 numbers, and 1 stands here", "line 8: over 1024 bytes", "line 9: over 1024 bytes",
               "line 11: not UTF-8", "line 12: an open database has no `restore`", "line 13: it has spaces alone",
               "line 14: unknown call `\\u{1b}[2J`"]
-    program.check("lines of each kind", program.run(folder, "--pages", "1", data=b"\n".join(lines)), 0,
-                  "new: 1 page\nbegan 1 at 64\nlsn 128\nlsn 192\nvalue 5\n", *(f"imgcopy: {error}" for error in errors))
+    before, behind = [f"bad {error}\n" for error in errors[:3]], [f"bad {error}\n" for error in errors[3:]]
+    program.check("lines of each kind", program.run(folder, "--pages", "1", data=b"\n".join(lines) + b"\n"), 0,
+                  "new: 1 page\nbegan 1 at 64\nlsn 128\n" + "".join(before) + "lsn 192\n" + "".join(behind) + "value 5\n",
+                  *(f"imgcopy: {error}" for error in errors))
+    unended = "line 3: it has no line feed, and was not made"
+    restarted = "restarted: log cut at 256, 0 transactions taken back, 3 records\n"
+    program.check("a last line without a line feed", program.run(folder, data=b"read 0 0\n\nbegin"), 0,
+                  restarted + f"value 5\nbad {unended}\n", f"imgcopy: {unended}")
+    program.check("a last line that says nothing", program.run(folder, data=b"read 0 0\n# the end"), 0,
+                  restarted + "value 5\n")
+    for data, tally in ((b"read 0 62\nread 0 0\n", "1 of 2 calls was refused, the first at line 1"),
+                        (b"read 0 0\n\nx\nread 0 62\n", "2 of 3 calls were refused, the first at line 3")):
+        done = program.run(folder, "--strict", data=data)
+        if done.returncode != 1 or not done.stderr.decode().endswith(f"imgcopy: {tally}\n"):
+            raise Failure(f"a strict call: status {done.returncode}, {done.stderr!r:.300}")
+        program.checks += 1
+    program.check("a strict call without a refusal", program.run(folder, "--strict", data=b"read 0 0\n"), 0,
+                  restarted + "value 5\n")
     many = b"read 0 0\n" * 2_000
     program.check("many lines", program.run(folder, data=many), 0,
                   "restarted: log cut at 256, 0 transactions taken back, 3 records\n" + "value 5\n" * 2_000)

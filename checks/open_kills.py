@@ -2,24 +2,31 @@
 
 usage: python3 -m checks.open_kills IMGCOPY [KILLS [FIRST]]
 
-Each folder has up to LIVES lives, one behind another, KILLS in all, 100 where none is told, with the seeds from FIRST
-on. A life opens what the one before it left: `imgcopy open` is sent random calls, and is killed while it opens, behind a
-reply, or among calls that it was sent, or it comes to its end. Between two lives the volume is deleted or spoiled, a
-copy is flipped, cut, deleted or swapped, the master record is lost, and bytes are written behind the log: torn ones, old
-records, and records that were never forced. The model is given what stands in the folder, and then:
+Each folder has up to LIVES lives, one behind another, KILLS in all, 200 where none is told, with the seeds from FIRST
+on. A life opens what the one before it left: `imgcopy open` is sent random calls and lines that are none, and is killed
+while it opens, behind a reply, among calls that it was sent, or while it closes, or it comes to its end. Between two
+lives open_spoils.py may spoil the volume, a copy, the master record, the note of a clean end, and the log. The model is
+given what stands in the folder, and then:
 
+- Where something shows that the log lacks records that were forced, the opening is refused with the model's words, and
+  nothing in the folder is touched; then `--salvage` opens it, and gives what knows of more another name. A kill alone
+  leaves no such folder.
 - The first line is the model's, and so is each reply, and each line on standard error of a life that ends.
 - The log's file is a beginning of the model's log, and has all that was forced behind the last reply that was read: so
   each commit that was told is there in the next life, and what was open is taken back.
-- Each copy whose `sealed` was told is there, whole; no other file of a copy was changed, and those that were refused, and
-  whose names would be given again, have another name.
+- All bytes that the log's file had still stand: in it, or in a file of bytes that were left out.
+- Each copy whose `sealed` was told is there, whole. No other file of a copy is changed or gone, but that one whose name
+  a sealed copy needs has another name. So has a master record of no checkpoint of the log.
 - The master record names a checkpoint that is at least as new as the last one that was told.
+- `closed` is there behind a clean end alone, and says where the log ends; then the volume has each page as the engine
+  has it.
 - `imgcopy audit` and `imgcopy restore` take the log, the master record, and each chain of copies, also those that were
   made before a loss.
 """
 
 import os
 import random
+import re
 import shutil
 import subprocess
 import sys
@@ -28,46 +35,39 @@ import time
 from collections import Counter
 from concurrent.futures import ProcessPoolExecutor
 from pathlib import Path
-from threading import Thread
+from threading import Thread, Timer
+from typing import NamedTuple
 
-from checks.bank_files import Failure, longest_chains, memory_place, program_of
+from checks.bank_files import Failure, memory_place, program_of
+from checks.open_folders import (MOST_SECONDS, Files, Judge, Told, check_point, check_refusal, is_unfinished,
+                                 with_first_pages)
+from checks.open_spoils import spoil
 from model.engine import MOST_FRAMES, Engine
-from model.lives import front_of, has_log, is_headless, reopen
-from model.log_format import COMMIT, RECORD_SIZE, encode_header, lsn_of
-from model.random_scripts import Play, take_turns
-from model.recovery import Refusal, answer_of, audit_files, encode_log, read_master, restore_files
+from model.lives import closed_note, has_log, is_headless, is_master_of, is_worth_keeping, line_of_new, reopen
+from model.log_format import HEADER_SIZE, encode_header, lsn_of
+from model.random_scripts import take_turns
+from model.recovery import encode_log, encode_pages
 
-KILLS, LIVES, MOST_SECONDS = 100, 6, 60
+KILLS, LIVES, LONGEST_LIFE = 200, 6, 300
+UNENDED = "it has no line feed, and was not made"
 # Lines that are no calls, and what is told of each; nothing of some.
 NOISE = [(b"", None), (b"# a line", None), (b"\r", None), (b"foo", "unknown call `foo`"), (b"  ", "it has spaces alone"),
          (b"set 1 0 0", "`set` takes 4 numbers, and 3 stand here"), (b"commit x", "a number is misspelled or too large"),
          (b"restore 1 all", "an open database has no `restore`"), (b"\xff", "not UTF-8"),
          (b"#" * 1025, "over 1024 bytes"), (b"#" * 1024, None)]
+# The same of last lines without a line feed.
+LAST = [(b"", None), (b"", None), (b"# a line", None), (b"\r", None), (b"begin", UNENDED), (b"force", UNENDED),
+        (b"foo", UNENDED), (b"\xff", UNENDED), (b"x" * 1025, "over 1024 bytes")]
+AT_ITS_END, WHILE_IT_CLOSES = "at its end", "while it closes"
 
 
-class Files:
-    """What stands in a folder."""
+class Line(NamedTuple):
+    """A line that is sent."""
 
-    def __init__(self, folder):
-        self.all = {path.name: path.read_bytes() for path in sorted(folder.iterdir())}
-        self.log, self.master = self.all.get("log"), self.all.get("master")
-        self.copies = {int(name[5:]): data for name, data in self.all.items()
-                       if name.startswith("copy-") and name[5:].isdigit()}
-        self.refused = sorted(data for name, data in self.all.items() if ".refused" in name)
-
-
-class Told(Play):
-    """A play that keeps what was answered, and how much was forced behind each reply."""
-
-    def __init__(self, seed, engine):
-        super().__init__(seed, engine)
-        self.replies, self.forced = [], [engine.forced]
-
-    def say(self, event):
-        reply = super().say(event)
-        self.replies.append(reply)
-        self.forced.append(self.engine.forced)
-        return reply
+    text: bytes
+    event: str | None  # None where it is no call
+    reply: str | None  # None where it has none
+    forced: int  # how many records are forced behind it
 
 
 class Life:
@@ -76,54 +76,99 @@ class Life:
     def __init__(self, imgcopy, folder, seed, pages):
         self.draw = random.Random(seed)
         self.imgcopy, self.folder = imgcopy, folder
-        self.before = Files(folder)
+        self.before = Files.of(folder)
         frames = self.draw.choice([1, 2, 3, MOST_FRAMES, MOST_FRAMES])
-        self.words = [imgcopy, "open", folder, "--frames", str(frames)]
-        self.refused, self.renamed, self.said = {}, [], []
+        self.is_strict = self.draw.random() < 0.3
+        self.words = [imgcopy, "open", folder, "--frames", str(frames), *(["--strict"] if self.is_strict else [])]
+        self.refused, self.losses, self.said = {}, [], []
+        self.front, self.left_out, self.master_aside, self.moved = None, None, None, {}
         if self.before.log is None or is_headless(self.before.log):
             self.words += ["--pages", str(pages)]
             self.engine = Engine(pages, frames)
-            self.first, self.floor = f"new: {pages} page{'' if pages == 1 else 's'}", -1
+            self.first, self.floor = line_of_new(pages), -1
         else:
             self.reopen(frames)
         self.had_master = self.engine.master
+        if self.master_aside and self.had_master and not self.moved.get("master"):
+            self.tell_moved("master", self.master_aside)
+        forced = self.engine.forced
         self.play = Told(seed, self.engine)
-        self.lines, self.errors = self.script()
+        take_turns(self.play)
+        self.copies_aside = {}
+        self.lines, self.last = self.script(forced)
+        self.answers = [Line(b"", None, self.first, forced), *(line for line in self.lines if line.reply is not None)]
 
     def reopen(self, frames):
-        again = reopen(self.before.log, self.before.copies, frames)
+        before = self.before
+        again = reopen(before.log, before.copies, frames)
         self.engine, self.first, self.floor = again.engine, again.line, len(again.front.records)
-        self.refused, self.renamed = again.refused, again.renamed
+        self.front, self.refused = again.front, again.refused
+        end = again.front.end()
+        if self.draw.random() < 0.25:
+            self.words += ["--pages", str(again.engine.count)]
+        self.losses = before.told_losses(self.folder)
+        self.said += [*before.told_note(self.folder), *self.losses]
+        self.moved = {loss.file: before.aside(loss.file) for loss in before.losses() if loss.file}
+        for name, aside in self.moved.items():
+            self.tell_moved(name, aside)
         if again.front.why:
-            end = again.front.end()
-            count = len(self.before.log) - end
+            count = len(before.log) - end
             some = "1 byte behind {} was" if count == 1 else f"{count} bytes behind {{}} were"
             self.said.append(f"{self.folder}/log: {some.format(end)} left out: {again.front.why}")
+            if is_worth_keeping(before.log[end:]):
+                self.left_out = before.left_out()
+                self.said.append(f"{self.folder}/log: they are now {self.left_out}")
         self.said += [f"{self.folder}/copy-{number}: {why}" for number, why in again.refused.items()]
+        if before.master is not None and not is_master_of(before.master, again.front.records):
+            self.master_aside = before.aside("master")
 
-    def script(self):
-        """The lines of the life, each with whether it has a reply, and the lines on standard error."""
-        take_turns(self.play)
-        lines, errors = [], []
-        for event in self.play.events:
+    def tell_moved(self, name, aside):
+        self.said.append(f"{self.folder}/{name}: what stood there is now {aside}")
+
+    def script(self, forced):
+        """The lines of the life, and a last one, which has no line feed."""
+        lines, has_master = [], bool(self.had_master) or "master" in self.moved
+        for event, reply, more in zip(self.play.events, self.play.replies, self.play.forced):
             while self.draw.random() < 0.05:
-                noise, why = self.draw.choice(NOISE)
-                lines.append((noise, False))
-                errors += [f"line {len(lines)}: {why}"] if why else []
-            lines.append((event.encode(), True))
-        return lines, errors
+                lines.append(self.no_call(len(lines) + 1, forced, NOISE))
+            forced = more
+            lines.append(Line(event.encode(), event, reply, forced))
+            name = "-".join(["copy", *event.split()[1:]])
+            if event.startswith("seal") and reply.startswith("sealed") and name in self.before.all and \
+                    name not in self.moved:
+                self.copies_aside[name] = self.before.aside(name)
+                self.tell_moved(name, self.copies_aside[name])
+            if reply.startswith("point") and not has_master:
+                has_master = True
+                if self.master_aside:
+                    self.tell_moved("master", self.master_aside)
+        # It is told in a life that comes to its end alone.
+        return lines, self.no_call(len(lines) + 1, forced, LAST)
+
+    def no_call(self, number, forced, some):
+        text, why = self.draw.choice(some)
+        if why is not None:
+            self.said.append(f"line {number}: {why}")
+        return Line(text, None, None if why is None else f"bad line {number}: {why}", forced)
+
+    # A life
 
     def live(self):
-        """The life: what it answered, whether it ended of itself, and what it said on standard error."""
+        """The life: what it answered, how it ended, its status, and what it said on standard error."""
         child = subprocess.Popen(self.words, stdin=subprocess.PIPE, stdout=subprocess.PIPE, stderr=subprocess.PIPE)
         said = []
-        drain = Thread(target=lambda: said.append(child.stderr.read()))
+        drain, late = Thread(target=lambda: said.append(child.stderr.read())), Timer(LONGEST_LIFE, child.kill)
         drain.start()
+        late.start()
         try:
             output, kind = self.ways()(child)
         finally:
+            is_late = not late.is_alive()
+            late.cancel()
             child.kill()
         output += child.stdout.read()
+        if is_late:
+            raise Failure(f"after {LONGEST_LIFE} seconds it has answered {output[-200:]!r}")
         child.stdin.close()
         child.stdout.close()
         drain.join(MOST_SECONDS)
@@ -131,7 +176,7 @@ class Life:
         return output, kind, child.returncode, said[0].decode()
 
     def ways(self):
-        return self.draw.choice([self.begin, self.behind, self.among, self.among, self.end])
+        return self.draw.choice([self.begin, self.behind, self.among, self.among, self.close, self.end, self.end])
 
     def begin(self, child):
         """Killed within its first moments."""
@@ -141,7 +186,7 @@ class Life:
     def behind(self, child):
         """Killed soon behind a reply, with all lines sent."""
         self.send(child, self.lines)
-        output = self.read(child, self.draw.randint(1, len(self.play.events) + 1))
+        output = self.read(child, self.draw.randint(1, len(self.answers)))
         time.sleep(self.draw.random() ** 3 * 0.002)
         return output, "behind a reply"
 
@@ -149,22 +194,33 @@ class Life:
         """Killed while it has some more lines."""
         at = self.draw.randint(0, len(self.lines))
         self.send(child, self.lines[:at])
-        output = self.read(child, 1 + sum(has_reply for _, has_reply in self.lines[:at]))
+        output = self.read(child, 1 + sum(line.reply is not None for line in self.lines[:at]))
         self.send(child, self.lines[at:at + self.draw.choice([1, 5, 50, 500])])
         time.sleep(self.draw.random() ** 3 * 0.005)
         return output, "among calls"
 
+    def close(self, child):
+        """Killed soon behind its last reply, with nothing more to come."""
+        self.send_all(child)
+        output = self.read(child, len(self.answers))
+        time.sleep(self.draw.random() ** 2 * 0.01)
+        return output, WHILE_IT_CLOSES
+
     def end(self, child):
         """It comes to its end."""
-        self.send(child, self.lines)
-        child.stdin.close()
+        self.send_all(child)
         output = child.stdout.read()
         child.wait(MOST_SECONDS)
-        return output, "at its end"
+        return output, AT_ITS_END
 
-    def send(self, child, lines):
+    def send_all(self, child):
+        self.send(child, self.lines, self.last.text)
+        child.stdin.close()
+        self.answers += [self.last] if self.last.reply else []
+
+    def send(self, child, lines, last=b""):
         try:
-            child.stdin.write(b"".join(line + b"\n" for line, _ in lines))
+            child.stdin.write(b"".join(line.text + b"\n" for line in lines) + last)
             child.stdin.flush()
         except BrokenPipeError:
             raise Failure(f"it ended of itself: {child.wait(MOST_SECONDS)}") from None
@@ -178,168 +234,131 @@ class Life:
 
     def check(self, output, kind, status, said):
         answers = output.decode().split("\n")[:-1]
-        wanted = [self.first, *self.play.replies]
-        for place, (answer, reply) in enumerate(zip(answers, wanted)):
-            if answer != reply:
-                raise Failure(f"line {place + 1} is {answer!r}, and {reply!r} is wanted")
-        if len(answers) > len(wanted):
-            raise Failure(f"{len(answers)} lines, and {len(wanted)} are wanted")
-        if kind == "at its end":
-            self.check_end(answers, wanted, status, said)
-        after = Files(self.folder)
-        self.check_log(after, len(answers))
-        self.check_copies(after, len(answers))
-        self.check_master(after, len(answers))
-        return after, len(answers)
+        for place, (answer, line) in enumerate(zip(answers, self.answers)):
+            if answer != line.reply:
+                raise Failure(f"line {place + 1} is {answer!r}, and {line.reply!r} is wanted")
+        if len(answers) > len(self.answers):
+            raise Failure(f"{len(answers)} lines, and {len(self.answers)} are wanted")
+        if kind == AT_ITS_END:
+            self.check_end(answers, status, said)
+        after, told = Files.of(self.folder), self.answers[:len(answers)]
+        self.check_log(after, told)
+        self.check_names(after, told)
+        self.check_copies(after, told)
+        self.check_master(after, told)
+        self.check_closed(after, told, kind)
+        return after, told
 
-    def check_end(self, answers, wanted, status, said):
-        if status != 0 or len(answers) != len(wanted):
-            raise Failure(f"status {status}, {len(answers)} of {len(wanted)} lines, and {said[:300]!r}")
-        errors = [line.removeprefix("imgcopy: ") for line in said.splitlines()]
-        moved = [error for error in errors if "it is now copy-" in error]
-        if [error for error in errors if error not in moved] != [*self.said, *self.errors]:
-            raise Failure(f"standard error {said[:600]!r}, and {[*self.said, *self.errors]!r:.600} is wanted")
-        if [error.split(": ")[0] for error in moved] != [f"{self.folder}/copy-{number}" for number in self.renamed]:
-            raise Failure(f"{moved!r}, and the copies {self.renamed} get other names")
+    def check_end(self, answers, status, said):
+        tally = self.tally() if self.is_strict else []
+        if status != len(tally) or len(answers) != len(self.answers):
+            raise Failure(f"status {status}, {len(answers)} of {len(self.answers)} lines, and {said[:300]!r}")
+        errors = with_first_pages([line.removeprefix("imgcopy: ") for line in said.splitlines()])
+        wanted = [*self.said, *tally]
+        if errors != wanted:
+            differ = [pair for pair in zip(errors, wanted) if pair[0] != pair[1]]
+            raise Failure(f"standard error has {len(errors)} lines, {len(wanted)} are wanted, and {differ[:1]} differs")
 
-    def check_log(self, after, answered):
-        """A beginning of the model's log, with all that was forced behind the last reply."""
-        whole = encode_log(self.engine.log, self.engine.pages)
-        if answered == 0 and self.floor < 0 and (after.log is None or is_headless(after.log)):
+    def tally(self):
+        """The line that counts the lines that were refused, if there are such."""
+        replies = {number: line.reply for number, line in enumerate([*self.lines, self.last], start=1) if line.reply}
+        refused = [number for number, reply in replies.items() if re.match("E[0-9]|bad line", reply)]
+        were = "was" if len(refused) == 1 else "were"
+        return [f"{len(refused)} of {len(replies)} calls {were} refused, the first at line {number}"
+                for number in refused[:1]]
+
+    def check_log(self, after, told):
+        """A beginning of the model's log, with all that was forced behind the last reply. What was cut off stands in a
+        file of its own."""
+        if not told and after.log == self.before.log:
             return
-        if answered == 0 and after.log == self.before.log:
+        if not told and self.floor < 0 and is_headless(after.log or b""):
             return
-        forced = self.play.forced[answered - 1] if answered else max(self.floor, 0)
-        if after.log is None or not has_log(after.log) or encode_header(self.engine.pages) != after.log[:RECORD_SIZE]:
+        whole, forced = encode_log(self.engine.log, self.engine.pages), told[-1].forced if told else max(self.floor, 0)
+        if after.log is None or not has_log(after.log) or encode_header(self.engine.pages) != after.log[:HEADER_SIZE]:
             raise Failure("there is no log")
-        # Where nothing was appended, what stood behind the front may still be there.
-        log = after.log
-        if len(self.engine.log) >= self.floor >= 0 and log == self.before.log:
-            log = log[:lsn_of(self.floor)]
-        if not whole.startswith(log) or len(log) < lsn_of(forced):
-            raise Failure(f"the log has {len(log)} bytes of another log than the model's, or fewer than {lsn_of(forced)}")
+        if not whole.startswith(after.log) or len(after.log) < lsn_of(forced):
+            raise Failure(f"the log has {len(after.log)} bytes of another log than the model's, or fewer than"
+                          f" {lsn_of(forced)}")
+        if self.left_out and after.all.get(self.left_out) != self.before.log[self.front.end():]:
+            raise Failure(f"what stood behind the log is not in {self.left_out}")
 
-    def check_copies(self, after, answered):
-        sealed = {int(event.split()[1]): place for place, event in enumerate(self.play.events)
-                  if event.startswith("seal") and self.play.replies[place].startswith("sealed")}
-        moved = sorted([*self.before.refused, *(self.before.copies[number] for number in self.renamed)])
-        if answered and after.refused != moved:
-            raise Failure(f"the copies {self.renamed} are refused, and have no other name")
-        for number, place in sealed.items():
-            if place + 1 < answered and after.copies.get(number) != self.engine.copies[number - 1].encode():
+    def check_names(self, after, told):
+        """What was put aside before is there as it was, and no file is there that no one needs."""
+        put = {"log", "volume", "master", "closed", self.left_out, self.master_aside, *self.copies_aside.values(),
+               *self.moved.values(), *(f"copy-{number}" for number in self.sealed([*self.answers]))}
+        for name in after.all.keys() - self.before.all.keys() - put:
+            if not is_unfinished(name):
+                raise Failure(f"{name} is there")
+        own = {"log", "volume", "master", "closed", *(f"copy-{number}" for number in self.before.copies)}
+        for name in self.before.all.keys() - own:
+            if not is_unfinished(name) and after.all.get(name, b"") != self.before.all[name]:
+                raise Failure(f"{name} is another one, or gone")
+        if self.left_out in after.all and after.all[self.left_out] != self.before.log[self.front.end():]:
+            raise Failure(f"{self.left_out} has other bytes than were left out")
+
+    def sealed(self, answers):
+        """The copies that are complete behind these answers."""
+        return {int(line.event.split()[1]) for line in answers
+                if line.event and line.event.startswith("seal") and line.reply.startswith("sealed")}
+
+    def check_copies(self, after, told):
+        sealed, placed = self.sealed(self.answers), self.sealed(told)
+        made = {number: self.engine.copies[number - 1].encode() for number in sealed}
+        for number in placed:
+            if after.copies.get(number) != made[number]:
                 raise Failure(f"copy {number} was told, and copy-{number} has it not")
         for number, data in after.copies.items():
-            is_old = self.before.copies.get(number) == data and (number not in self.renamed or not answered)
-            if not is_old and (number not in sealed or data != self.engine.copies[number - 1].encode()):
+            if self.before.copies.get(number, b"") != data and data != made.get(number):
                 raise Failure(f"copy-{number} is another one")
-        for number in self.before.copies:
-            if number not in after.copies and (number not in self.renamed):
-                raise Failure(f"copy-{number} is gone")
+        for number, data in self.before.copies.items():
+            name = f"copy-{number}"
+            stays = number not in placed and number in after.copies and after.copies[number] == data
+            stays = stays and not (told and name in self.moved)
+            aside = self.moved.get(name) or self.copies_aside.get(name)
+            is_aside = aside in after.all and after.all[aside] == data
+            if not stays and not is_aside:
+                raise Failure(f"what {name} had is gone")
 
-    def check_master(self, after, answered):
-        told = [int(reply.split()[2]) for reply in self.play.replies[:max(answered - 1, 0)] if reply.startswith("point")]
-        if answered and self.had_master:
-            told.append(self.had_master[1])
-        if not told:
-            return
-        try:
-            _, end = read_master(after.master, self.engine.log)
-        except Refusal as refusal:
-            raise Failure(f"the master record: {refusal.line()}") from refusal
-        if end < max(told):
-            raise Failure(f"the master record names the checkpoint at {end}, and one at {max(told)} was told")
+    def check_master(self, after, told):
+        must_move = told and "master" in self.moved
+        if self.master_aside and (must_move or after.master != self.before.master) and \
+                after.all.get(self.master_aside) != self.before.master:
+            raise Failure(f"the master record of another log is gone, and {self.master_aside} has it not")
+        ends = [int(line.reply.split()[2]) for line in told if line.event and line.reply.startswith("point")]
+        if told and self.had_master:
+            ends.append(self.had_master[1])
+        if ends:
+            check_point(after.master, self.engine.log, max(ends))
 
-
-def spoil(draw, folder, unforced, counts):
-    """What may befall a folder that is not open."""
-    files = Files(folder)
-    volume = folder / "volume"
-    if volume.exists() and draw.random() < 0.5:
-        counts["volumes lost"] += 1
-        if draw.random() < 0.7:
-            volume.unlink(missing_ok=True)
-        else:
-            volume.write_bytes(draw.randbytes(draw.randint(0, 3000)))
-    if files.copies and draw.random() < 0.35:
-        number = draw.choice(sorted(files.copies))
-        spoil_copy(draw, folder / f"copy-{number}", files.copies)
-        counts["copies spoiled"] += 1
-    if files.master and draw.random() < 0.2:
-        (folder / "master").write_bytes(draw.choice([b"", bytes(64), files.master[:-1]]))
-    if files.log is not None and has_log(files.log) and draw.random() < 0.5:
-        tail = draw.choice([torn, old_records, never_forced])(draw, files.log, unforced)
-        with open(folder / "log", "ab") as log:
-            log.write(tail)
-        counts["logs with a tail"] += bool(tail)
+    def check_closed(self, after, told, kind):
+        """The note, and the volume as it is then."""
+        if kind in (AT_ITS_END, WHILE_IT_CLOSES):
+            if after.closed is None and kind == WHILE_IT_CLOSES:
+                return
+            end = lsn_of(len(self.engine.log))
+            if after.closed != closed_note(end) or len(after.log) != end:
+                raise Failure(f"the note is {after.closed}, the log has {len(after.log)} bytes, and {end} are wanted")
+            if after.volume != encode_pages([self.engine.page(number) for number in range(self.engine.count)]):
+                raise Failure("the volume has not each page as the engine has it")
+        elif told and after.closed is not None:
+            raise Failure("the note of the last closing is there, and it is open")
+        elif after.closed is not None:
+            before = self.before
+            if [after.closed, after.log, after.volume] != [before.closed, before.log, before.volume]:
+                raise Failure("the note of the last closing is there, and something is stored")
 
 
-def spoil_copy(draw, path, copies):
-    data = bytearray(path.read_bytes())
-    way = draw.choice(["flip", "flip", "cut", "delete", "swap", "empty"])
-    if way == "delete":
-        path.unlink()
-        return
-    if way == "flip" and data:
-        data[draw.randrange(len(data))] ^= 1 << draw.randrange(8)
-    elif way == "cut":
-        data = data[:draw.randrange(len(data) + 1)]
-    elif way == "swap":
-        data = copies[draw.choice(sorted(copies))]
-    elif way == "empty":
-        data = b""
-    path.write_bytes(data)
-
-
-def torn(draw, log, unforced):
-    return draw.randbytes(draw.choice([1, 63, 64, 65, 200]))
-
-
-def old_records(draw, log, unforced):
-    """Records of the log itself, with LSNs that are not right there, or right ones with other bytes."""
-    records = [log[at:at + RECORD_SIZE] for at in range(RECORD_SIZE, len(log) - RECORD_SIZE + 1, RECORD_SIZE)]
-    if not records:
-        return b""
-    last = bytearray(draw.choice(records))
-    if draw.random() < 0.5:
-        last[-8:] = (len(log) // RECORD_SIZE * RECORD_SIZE).to_bytes(8, "little")
-    return bytes(last) + b"".join(draw.sample(records, min(3, len(records))))
-
-
-def never_forced(draw, log, unforced):
-    """Records that the engine had not forced when it was killed, and a part of the next one. They may all be stored."""
-    rest = unforced[len(log):] if unforced.startswith(log) else b""
-    return rest[:draw.randint(0, len(rest))]
-
-
-class Judge:
-    """Has the program audit and restore what is left."""
-
-    def __init__(self, imgcopy, scratch):
-        self.imgcopy, self.scratch, self.made = imgcopy, scratch, Counter()
-
-    def compare(self, wanted, *words):
-        done = subprocess.run([self.imgcopy, *words], cwd=self.scratch, capture_output=True, timeout=MOST_SECONDS)
-        if (done.returncode, done.stdout) != (wanted.status, wanted.output):
-            raise Failure(f"{' '.join(words)}: status {done.returncode}, {done.stderr[:200]!r}, and {wanted!r:.200} is"
-                          " wanted")
-        self.made[words[0]] += 1
-
-    def check(self, files):
-        """Each longest chain of sound copies is audited and restored; the model audits and restores it by its own."""
-        if files.log is None or not has_log(files.log) or not files.master:
-            return
-        front = front_of(files.log)
-        log = files.log[:front.end()]
-        sound = reopen(log, files.copies)
-        chains = {number: [copy.number for copy in sound.engine.chain(number)]
-                  for number in files.copies if number not in sound.refused}
-        data = {"log": log, "master": files.master} | {f"copy-{number}": copy for number, copy in files.copies.items()}
-        for name, bytes_ in data.items():
-            (self.scratch / name).write_bytes(bytes_)
-        for chain in longest_chains(chains):
-            names, archives = [f"copy-{number}" for number in chain], [files.copies[number] for number in chain]
-            self.compare(audit_files(log, archives), "audit", "log", *names)
-            self.compare(answer_of(restore_files, log, files.master, archives), "restore", "log", "master", *names)
+def born(imgcopy, folder, seed, pages, counts):
+    """The next life of a folder that was spoiled. Where the log lacks something, the opening is refused first."""
+    life = Life(imgcopy, folder, seed, pages)
+    if life.losses:
+        check_refusal(life.words, folder)
+        counts["refused"] += 1
+    # Where nothing is lost, it changes nothing.
+    if life.losses or life.draw.random() < 0.1:
+        life.words.append("--salvage")
+    return life
 
 
 def play(imgcopy, place, seeds):
@@ -347,29 +366,34 @@ def play(imgcopy, place, seeds):
     folder, scratch = Path(place) / f"open-{seeds[0]}", Path(place) / f"scratch-{seeds[0]}"
     folder.mkdir()
     scratch.mkdir()
-    judge, counts = Judge(imgcopy, scratch), Counter()
+    judge, counts, life = Judge(imgcopy, scratch), Counter(), None
     pages = random.Random(seeds[0]).choice([1, 1, 2, 3, 4, 7])
     for seed in seeds:
-        life = Life(imgcopy, folder, seed, pages)
-        kept = {name: data for name, data in life.before.all.items()}
+        kept = Files.of(folder)
         try:
+            life = born(imgcopy, folder, seed, pages, counts)
             output, kind, status, said = life.live()
-            counts[f"killed {kind}" if kind != "at its end" else "came to an end"] += 1
-            after, answered = life.check(output, kind, status, said)
-            counts["commits told"] += sum(reply.startswith("lsn") and event.startswith("commit") for event, reply in
-                                          zip(life.play.events, life.play.replies[:max(answered - 1, 0)]))
-            counts["copies refused"] += len(life.refused) if answered else 0
-            counts["restarted"] += bool(answered and life.floor >= 0)
+            counts[f"killed {kind}" if kind != AT_ITS_END else "came to an end"] += 1
+            after, told = life.check(output, kind, status, said)
+            if (told or not life.losses) and after.log is not None and has_log(after.log) and \
+                    after.losses():
+                raise Failure("what it left is refused, and nothing was spoiled")
+            counts["commits told"] += sum(bool(line.event) and line.event.startswith("commit") and
+                                          line.reply.startswith("lsn") for line in told)
+            counts["copies refused"] += len(life.refused) if told else 0
+            counts["restarted"] += bool(told and life.floor >= 0)
+            counts["logs put aside"] += bool(told and life.left_out)
+            counts["files moved aside"] += sum(".refused" in name for name in after.all.keys() - life.before.all.keys())
+            counts["closed"] += after.closed is not None
             judge.check(after)
             spoil(life.draw, folder, encode_log(life.engine.log, life.engine.pages), counts)
         except (Failure, subprocess.TimeoutExpired) as failure:
             left = Path(tempfile.mkdtemp(prefix="open-kill-"))
             shutil.copytree(folder, left / "folder")
-            (left / "before").mkdir()
-            for name, data in kept.items():
-                (left / "before" / name).write_bytes(data)
-            (left / "lines").write_bytes(b"".join(line + b"\n" for line, _ in life.lines))
-            raise Failure(f"seed {seed}, {' '.join(map(str, life.words))}: {failure}; the files are in {left}") from failure
+            kept.put_in(left / "before")
+            (left / "lines").write_bytes(b"".join(line.text + b"\n" for line in life.lines) if life else b"")
+            words = " ".join(map(str, life.words)) if life else "no life"
+            raise Failure(f"seed {seed}, {words}: {failure}; the files are in {left}") from failure
     shutil.rmtree(folder)
     shutil.rmtree(scratch)
     return counts, judge.made

@@ -2,24 +2,27 @@
 
 usage: python3 -m checks.saves_at_once PROGRAM [ROUNDS]
 
-In each of ROUNDS rounds, 200 where none is told, two or four runs that differ in every file begin at once. Each of them
-ends with status 0, or is refused with a line that says why, and has saved nothing then. All files are those of one run
-that ended with status 0, whole. Then links stand where a save makes its files and where it puts them: what they lead to
-stays as it is.
+In each of ROUNDS rounds, 100 where none is told, two or four runs that differ in every file begin at once, half of the
+rounds with --force. Each of them ends with status 0, or is refused with a line that says why, and has saved nothing then;
+without --force just one ends with status 0. All files are those of one run that ended with status 0, whole. A run whose
+folder is locked is refused before it plays its script, and one whose folder is free again soon is not. Then links stand
+where a save makes its files and where it puts them: what they lead to stays as it is.
 """
 
+import fcntl
 import os
 import shutil
 import subprocess
 import sys
 import tempfile
+import time
 from collections import Counter
 from pathlib import Path
 
 from model.scripts import run
 from checks.unsaved import Failure, fresh, script_of, text_of
 
-ROUNDS = 200
+ROUNDS = 100
 PAGES = 48
 MOST_SECONDS = 60
 
@@ -35,25 +38,48 @@ class Runs:
             self.texts.append(place / f"script-{number}")
             self.texts[-1].write_bytes(text)
 
-    def start(self, number, folder):
+    def start(self, number, folder, *options):
         with open(self.texts[number], "rb") as text:
-            return subprocess.Popen([self.program, "run", "--pages", str(PAGES), "--save", str(folder)], stdin=text,
-                                    stdout=subprocess.DEVNULL, stderr=subprocess.PIPE)
+            return subprocess.Popen([self.program, "run", "--pages", str(PAGES), "--save", str(folder), *options],
+                                    stdin=text, stdout=subprocess.PIPE, stderr=subprocess.PIPE)
 
 
-def check_round(runs, folder, count, counts):
+def check_round(runs, folder, count, options, counts):
     fresh(folder)
-    children = [runs.start(number, folder) for number in range(count)]
+    children = [runs.start(number, folder, *options) for number in range(count)]
     said = [child.communicate(timeout=MOST_SECONDS)[1] for child in children]
     done = [child.returncode == 0 for child in children]
-    refusal = f"E29 WriteFault 0\nimgcopy: {folder}: another save into this folder is going on\n".encode()
+    refusals = [f"E29 WriteFault 0\nimgcopy: {folder}: another one has this folder open\n".encode()]
+    if not options:
+        refusals.append(f"E29 WriteFault 0\nimgcopy: {folder}/log: this is a log: --force replaces it\n".encode())
     for child, text in zip(children, said):
-        if (child.returncode, text) not in ((0, b""), (2, refusal)):
-            raise Failure(f"{count} saves at once: status {child.returncode}, {text[:200]!r}")
+        if child.returncode == 0 and text == b"" or child.returncode == 2 and text in refusals:
+            continue
+        raise Failure(f"{count} saves at once: status {child.returncode}, {text[:200]!r}")
     given = {path.name: path.read_bytes() for path in folder.iterdir()}
     if given not in [runs.files[number] for number in range(count) if done[number]]:
         raise Failure(f"{count} saves at once: the files are of no run that ended with status 0")
+    if not options and sum(done) != 1:
+        raise Failure(f"{count} saves at once: {sum(done)} ended with status 0, and no one was told to replace a log")
     counts[f"{count} at once, refused"] += count - sum(done)
+
+
+def check_lock(runs, folder):
+    """Another one has the folder, for ever or for a while."""
+    fresh(folder)
+    handle = os.open(folder, os.O_RDONLY)
+    fcntl.flock(handle, fcntl.LOCK_EX)
+    child = runs.start(0, folder, "--force")
+    output, said = child.communicate(timeout=MOST_SECONDS)
+    wanted = f"E29 WriteFault 0\nimgcopy: {folder}: another one has this folder open\n".encode()
+    if (child.returncode, output, said) != (2, b"", wanted) or list(folder.iterdir()):
+        raise Failure(f"a folder that is locked: status {child.returncode}, {output[:60]!r}, {said[:200]!r}")
+    child = runs.start(0, folder)
+    time.sleep(0.1)
+    os.close(handle)
+    said = child.communicate(timeout=MOST_SECONDS)[1]
+    if (child.returncode, said) != (0, b""):
+        raise Failure(f"a folder that is free again: status {child.returncode}, {said[:200]!r}")
 
 
 def check_links(runs, folder):
@@ -64,7 +90,7 @@ def check_links(runs, folder):
             fresh(folder)
             outside.write_bytes(b"outside")
             (folder / name).symlink_to(target)
-            child = runs.start(0, folder)
+            child = runs.start(0, folder, "--force")
             said = child.communicate(timeout=MOST_SECONDS)[1].decode()
             given = {path.name: path.read_bytes() for path in folder.iterdir() if not path.is_symlink()}
             if child.returncode != 0 or given != runs.files[0] or outside.read_bytes() != b"outside":
@@ -85,7 +111,8 @@ def main(arguments):
             folder = Path(place, "saved")
             runs = Runs(os.path.abspath(program), Path(place), 4)
             for number in range(rounds):
-                check_round(runs, folder, (2, 4)[number % 2], counts)
+                check_round(runs, folder, (2, 4)[number % 2], ([], ["--force"])[number // 2 % 2], counts)
+            check_lock(runs, folder)
             check_links(runs, folder)
         if rounds >= ROUNDS and not sum(counts.values()):
             raise Failure("no save met another one")

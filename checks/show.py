@@ -6,8 +6,9 @@ COUNT random scripts are played and saved by the program, from the seeds FIRST a
 told. Of what each leaves the log, the master record, two copies and the volume, and the logs of `examples/`, are shown
 whole, in words and as JSON, narrowed by each option, cut, longer, and with a byte that is another one. What is right before
 the fault has to be there, line by line, and then the line of the fault with its status. Each folder is listed, also without
-a copy of a chain, with a copy under the name of another one, with a torn log, and without a log. The bytes are decoded by
-this file alone; the model says where a log has its first fault.
+a copy of a chain, with a copy under the name of another one, with one that is cut or too long, with a log that ends below
+a copy's checkpoint, with a torn log, without a log, and with pipes in the place of a log and of a copy. The bytes are
+decoded by this file alone; the model says where a log has its first fault.
 """
 
 import json
@@ -120,8 +121,11 @@ def show_log(data):
         if refusal.number == 30:
             return [], refusal.line()
         fault, end = refusal.line(), refusal.values[0] if refusal.values else 64 + RECORD * 2**20
-    head = {"file": "log", "format": int(data[7:8]), "pages": u32(data, 8), "records": (len(data) - 64) // RECORD}
-    return [head, *(record_of(data[at:at + RECORD]) for at in range(64, end, RECORD))], fault
+    records = [record_of(data[at:at + RECORD]) for at in range(64, end, RECORD)]
+    # The volume has as many pages as the last growth gave it.
+    pages = [u32(data, 8), *(it["pages"] for it in records if it["kind"] == "extend")][-1]
+    head = {"file": "log", "format": int(data[7:8]), "pages": pages, "records": (len(data) - 64) // RECORD}
+    return [head, *records], fault
 
 
 def show_master(data):
@@ -190,7 +194,8 @@ def words_of(fields):
         text = f"copy {fields['id']} {'full' if fields['parent'] is None else 'inc %d' % fields['parent']} " + \
             " ".join(f"{key} {fields[key]}" for key in ("pages", "begin", "redo", "taken"))
         if "lacks" in fields:
-            return text + (" whole" if fields["lacks"] is None else f" lacks {fields['lacks']}")
+            whole = "whole" if fields["lacks"] is None else f"lacks {fields['lacks']}"
+            return f"{text} {fields.get('fault', whole)}"
         return f"archive format {fields['format']} {text}"
     if "point" in fields:
         point = fields["point"]
@@ -279,32 +284,77 @@ def facts_of(log, rows):
              {"point": points[-1] if points else None},
              {"open": len(is_open), "pending": undo}]
     for row in rows:
-        if row["lacks"] is None:
+        if row["lacks"] is None and row.get("fault") in (None, "E39 RedoBeyondLog"):
             redo = sum(it["lsn"] >= row["redo"] for it in records)
             found.append({"restore": row["id"], **({"redo": redo, "undo": undo} if redo else {"fault": "E39 RedoBeyondLog"})})
     return found
 
 
+def flaw_of(header, length, log):
+    """What is wrong with a copy: its length, or a log that ends below it."""
+    if length != 64 + PAGE * header["taken"]:
+        return "E38 CountDiffers"
+    if log is None:
+        return None
+    end = RECORD * len(show_log(log)[0])
+    if header["redo"] >= end:
+        return "E39 RedoBeyondLog"
+    return "begins past the log" if header["begin"] >= end else None
+
+
 def list_folder(viewer, what, folder, faults=()):
-    files = {path.name: path.read_bytes() for path in folder.iterdir()}
+    files = {path.name: path.read_bytes() for path in folder.iterdir() if path.is_file()}
     found = sorted((int(name[5:]), data) for name, data in files.items() if name.startswith("copy-"))
     rows, lacks = [], {}
     for number, data in found:
         if is_archive_header(data) and header_of(data)["id"] == number:
             header = header_of(data)
-            parent = header["parent"]
-            lacks[number] = None if parent is None else lacks.get(parent, parent)
-            rows.append({"file": "archive", **header, "lacks": lacks[number]})
+            parent, flaw = header["parent"], flaw_of(header, len(data), files.get("log"))
+            missing = None if parent is None else lacks.get(parent, parent)
+            rows.append({"file": "archive", **header, "lacks": missing, **({"fault": flaw} if flaw else {})})
+            lacks[number] = number if flaw else missing
     lines = [*rows, *(facts_of(files["log"], rows) if "log" in files else [])]
-    viewer.see(what, ["list", folder.name], lines, list(faults))
+    faults = list(faults) or [""] * any("fault" in row for row in rows)
+    viewer.see(what, ["list", folder.name], lines, faults)
     viewer.counts["folders"] += 1
+    viewer.counts["flaws"] += sum("fault" in row for row in rows)
+
+
+def check_pipe(viewer, what, path):
+    """A pipe stands there, of which no one would ever write: it is not opened."""
+    whole = path.read_bytes()
+    path.unlink()
+    os.mkfifo(path)
+    list_folder(viewer, what, path.parent, ["E33 ReadFault"])
+    told = viewer.run("list", path.parent.name).stderr.decode()
+    if f"imgcopy: {path.parent.name}/{path.name}: this is no regular file\n" not in told:
+        raise Failure(f"{what}: {told!r}")
+    path.unlink()
+    path.write_bytes(whole)
+
+
+def check_flaws(viewer, what, path, log):
+    """A copy that is cut, or longer; and logs that end below its checkpoint and below its redo point."""
+    data, whole = path.read_bytes(), log.read_bytes()
+    for length in {64, len(data) - 1, len(data) + 1} - {63, len(data)}:
+        path.write_bytes(data[:length] + bytes(max(0, length - len(data))))
+        list_folder(viewer, f"{what}, {length} bytes of {path.name}", path.parent)
+    path.write_bytes(data)
+    header = header_of(data)
+    for end in {header["begin"], header["redo"]}:
+        log.write_bytes(whole[:end])
+        list_folder(viewer, f"{what}, a log that ends at {end} beside {path.name}", path.parent)
+    log.write_bytes(whole)
 
 
 def check_folder(viewer, what, folder, draw):
     list_folder(viewer, what, folder)
+    check_pipe(viewer, f"{what}, a pipe", folder / "log")
     copies = sorted(path for path in folder.iterdir() if path.name.startswith("copy-"))
     if copies:
         lost = draw.one_of(copies)
+        check_flaws(viewer, what, lost, folder / "log")
+        check_pipe(viewer, f"{what}, a pipe", lost)
         data = lost.read_bytes()
         lost.unlink()
         list_folder(viewer, f"{what}, without {lost.name}", folder)

@@ -73,7 +73,7 @@ class Saver:
             (folder / name).write_bytes(data)
 
     def words(self, folder):
-        return [self.program, "run", "--pages", str(self.pages), "--save", str(folder)]
+        return [self.program, "run", "--pages", str(self.pages), "--save", str(folder), "--force"]
 
     def play(self, folder, limit=None):
         def before():

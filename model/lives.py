@@ -1,6 +1,8 @@
-"""A database that is opened again: what of its log counts, which copies are taken up, and the engine that goes on.
+"""A database that is opened again: whether it is, what of its log counts, which copies are taken up, and the engine
+that goes on.
 
-What a crash leaves of the log's file is read up to the first record that is torn, misspelt, or may not follow. What is
+What a crash leaves of the log's file is read up to the first record that is torn, misspelt, or may not follow. If
+something shows that the log was forced beyond that, the file is damaged, and the database is not opened. Else what is
 open there is taken back by records behind it. Then the engine goes on as if every page had just been stored.
 """
 
@@ -8,15 +10,27 @@ from typing import NamedTuple
 
 from model.engine import MOST_FRAMES, Checkpoint, Engine
 from model.log_checkpoints import BEGIN_CHKPT, CHKPT_PAGES, END_CHKPT
-from model.log_format import (HEADER_SIZE, MOST_RECORDS, PAGE_SIZE, RECORD_SIZE, History, decode_record,
-                              fault_of_header, fault_of_record, is_first_format, lsn_of, page_count)
-from model.recovery import (ARCHIVE, MOST_COPIES, Copy, Refusal, Transactions, content, count_behind, count_below,
-                            images, is_change, read_archive_header, read_page, redo_all, undo_records)
+from model.log_format import (COMMIT, HEADER_SIZE, MOST_PAGES, MOST_RECORDS, PAGE_SIZE, RECORD_SIZE, History,
+                              decode_record, fault_of_header, fault_of_record, is_first_format, lsn_of, page_count)
+from model.recovery import (ARCHIVE, MASTER, MOST_COPIES, Copy, Refusal, Transactions, content, count_behind,
+                            count_below, encode_master, images, is_change, read_archive_header, read_page, redo_all,
+                            undo_records)
 
 TORN = "they are less than a record"
 BAD_RECORD = "no record begins there"
 BAD_CHAIN = "the record there may not follow those before it"
 TOO_LONG = "a log has no more records"
+NO_FILE = "this is no regular file"
+FAULTS = {TORN: "E32 Torn {}", BAD_RECORD: "E31 BadRecord {}", TOO_LONG: "E34 TooLong", BAD_CHAIN: "E35 BadChain {}",
+          None: "E35 BadChain {}"}
+LONGEST_LSN = 2**64 - 1
+
+
+class Loss(NamedTuple):
+    """What shows that a log lacks records that were forced."""
+
+    file: str | None  # the file that knows of more, if its name is to be given to another one
+    text: str
 
 
 class Front(NamedTuple):
@@ -28,6 +42,10 @@ class Front(NamedTuple):
 
     def end(self):
         return lsn_of(len(self.records))
+
+    def fault(self):
+        """The line of the fault that the end is, where more was forced."""
+        return FAULTS[self.why].format(self.end())
 
 
 def front_of(data):
@@ -59,12 +77,93 @@ def is_headless(data):
     return len(data) < HEADER_SIZE or data == bytes(HEADER_SIZE)
 
 
+def closed_at(note):
+    """Where a log ended when its database was closed, by the note of that, or None where these bytes are no note."""
+    digits = note[:-1]
+    if note[-1:] != b"\n" or not digits.isdigit() or digits.startswith(b"0") or int(digits) > LONGEST_LSN:
+        return None
+    return int(digits)
+
+
+def closed_note(end):
+    return b"%d\n" % end
+
+
+def master_in(data):
+    """The begin and end that a master record spells, whatever log it is of, or None."""
+    if len(data) != MASTER.size:
+        return None
+    _, begin, end = MASTER.unpack(data)
+    is_spelt = data == encode_master(begin, end) and begin % 64 == 0 and end % 64 == 0 and 64 <= begin < end
+    return (begin, end) if is_spelt else None
+
+
+def is_master_of(data, records):
+    """Whether the bytes of a master record name a complete checkpoint of this log."""
+    named = master_in(data)
+    if named is None or named[1] > lsn_of(len(records) - 1):
+        return False
+    record = records[named[1] // RECORD_SIZE - 1]
+    return record.kind == END_CHKPT and record.begin == named[0]
+
+
+def forced_behind(data, end):
+    """The LSN of the first Commit or EndChkpt that spells itself in these bytes from the end of the front on, if one
+    more record spells itself behind it: an engine forces these before it appends the next record. Else None."""
+    first = None
+    for at in range(end, len(data) - RECORD_SIZE + 1, RECORD_SIZE):
+        record = decode_record(data[at:at + RECORD_SIZE])
+        if fault_of_record(record, at, MOST_PAGES):
+            continue
+        if first is not None:
+            return first
+        if record.kind in (COMMIT, END_CHKPT):
+            first = at
+    return None
+
+
+def losses(data, closed, master, copies):
+    """What shows that the front of a log lacks records that were forced: nothing where none shows it. The note and the
+    master record may be None, as may each copy that is no file."""
+    end, found = front_of(data).end(), []
+    note = closed_at(closed) if closed is not None else None
+    if note is not None and end < note:
+        found.append(Loss(None, f"`closed` says that the log ended at {note}"))
+    named = master_in(master) if master is not None else None
+    if named is not None and end <= named[1]:
+        found.append(Loss("master", f"`master` names the end of a checkpoint at {named[1]}"))
+    for number, archive in sorted(copies.items()):
+        found += [Loss(f"copy-{number}", text) for text in losses_by(f"`copy-{number}`", archive, end)]
+    forced = forced_behind(data, end)
+    if forced is not None:
+        found.append(Loss(None, f"a record that was forced stands at {forced}"))
+    return found
+
+
+def losses_by(name, archive, end):
+    """What the file of a copy knows of a log beyond its end: where the copy began, and the first page that has more."""
+    try:
+        copy = read_copy(archive)
+    except NotTaken:
+        return []
+    beyond = [page for _, page in sorted(copy.taken.items()) if end <= page.lsn]
+    return [f"{name} began at {copy.begin}" for _ in range(end <= copy.begin)] + \
+        [f"page {page.number} of {name} has the change at {page.lsn}" for page in beyond[:1]]
+
+
+def is_worth_keeping(behind):
+    """Whether the bytes behind a front are put aside before they are cut off."""
+    return len(behind) >= RECORD_SIZE and any(behind)
+
+
 class NotTaken(Exception):
     """Why a copy is not taken up, in words."""
 
 
 def read_copy(data):
-    """The copy that these bytes spell."""
+    """The copy that these bytes spell. None stands for what is no file."""
+    if data is None:
+        raise NotTaken(NO_FILE)
     try:
         copy, taken = read_archive_header(data[:ARCHIVE.size])
     except Refusal:
@@ -92,11 +191,23 @@ class Reopened(NamedTuple):
     front: Front
     line: str  # the first one
     refused: dict  # by the id of a copy why it is not taken up
-    renamed: list  # the ids of those that get another name
+
+
+class NextLife(Engine):
+    """An engine that does not give the ids of copies that cannot be read. Each is passed over as one that was dropped."""
+
+    unread = frozenset()
+
+    def new_copy(self, parent):
+        while len(self.copies) + 1 in self.unread and len(self.copies) < MOST_COPIES:
+            super().new_copy(parent)
+            self.copies[-1].is_dropped = True
+        return super().new_copy(parent)
 
 
 def reopen(data, copies, frames=MOST_FRAMES):
-    """What comes of this log's file and these files of copies, by their ids."""
+    """What comes of this log's file and these files of copies, by their ids: None for what has a copy's name, and is no
+    file."""
     front = front_of(data)
     log = [*front.records]
     open_ones = len(Transactions(log).open)
@@ -108,10 +219,15 @@ def reopen(data, copies, frames=MOST_FRAMES):
             add_copy(engine, number, archive)
         except NotTaken as why:
             refused[number] = str(why)
-    renamed = [number for number in refused if len(engine.copies) < number <= MOST_COPIES]
+    engine.unread = {number for number, archive in copies.items() if archive is None}
     line = f"restarted: log cut at {front.end()}, {counted(open_ones, 'transaction')} taken back," \
            f" {counted(len(log), 'record')}"
-    return Reopened(engine, front, line, refused, renamed)
+    return Reopened(engine, front, line, refused)
+
+
+def line_of_new(pages):
+    """The first line of a database that is new."""
+    return f"new: {counted(pages, 'page')}"
 
 
 def counted(count, noun):
@@ -121,7 +237,7 @@ def counted(count, noun):
 def resumed(pages, log, frames):
     """An engine of a log in which no transaction is open. All of it is forced, each page is stored as the log makes it,
     and none is in memory."""
-    engine = Engine(pages, frames)
+    engine = NextLife(pages, frames)
     engine.log, engine.count = log, count_behind(log, pages)
     engine.forced = len(log)
     engine.transactions = Transactions(log)

@@ -1,0 +1,442 @@
+"""Has imgcopy write files where logs, copies and other files stand, and where another one has the folder open.
+
+usage: python3 -m checks.outputs PROGRAM
+
+No output takes the place of a log, a master record, a copy or an input of its command unless `--force` says so: `redo -o`,
+`restore -o`, `restore --log-out` and `run --save` are refused there, name the file and what it is, and change nothing, be it
+there before the command or put there meanwhile. With `--force` they replace it, but no file that another one has locked.
+Where another one has the folder, as an open database has, they are refused; many of them in one folder do not stand in each
+other's way. What a killed one left is removed by the next one and told, and what a living one writes is not. Then audits
+read pipes, and names with escape sequences are told.
+"""
+
+import fcntl
+import os
+import shutil
+import signal
+import subprocess
+import sys
+import tempfile
+import time
+from contextlib import contextmanager
+from pathlib import Path
+
+EXAMPLES = Path(__file__).resolve().parent.parent / "examples"
+FILES = ("log", "master", "copy-1", "copy-2", "copy-3")
+MOST_SECONDS = 60
+AT_ONCE = 24
+VOLUME = b"\0\0\0\0\1\0\0\0" + bytes(504)
+OPEN = "another one has this folder open"
+
+
+class Failure(Exception):
+    """What differs, in one line."""
+
+
+def content(folder):
+    """The files of a folder and of those in it."""
+    return {str(path.relative_to(folder)): path.read_bytes() for path in folder.rglob("*") if path.is_file()}
+
+
+@contextmanager
+def locked(path):
+    handle = os.open(path, os.O_RDONLY)
+    try:
+        fcntl.flock(handle, fcntl.LOCK_EX)
+        yield
+    finally:
+        os.close(handle)
+
+
+class Writer:
+    """Runs commands in a folder that has the files of a day."""
+
+    def __init__(self, program, place):
+        self.program, self.folder, self.day, self.checks = program, place / "top", place / "day", 0
+        self.script = (EXAMPLES / "day.script").read_bytes()
+        self.day.mkdir()
+        subprocess.run([program, "run", "--pages", "3", "--save", str(self.day)], input=self.script, check=True,
+                       capture_output=True, timeout=MOST_SECONDS)
+        self.log = (self.day / "log").read_bytes()
+        self.fill()
+        self.commands = {"redo -o": (["redo", "-o"], [], self.log, self.run("redo", data=self.log).stdout),
+                         "restore -o": (["restore", "-o"], FILES, b"", self.run("restore", *FILES).stdout),
+                         "restore --log-out": (["restore", "--log-out"], FILES, b"", None)}
+        self.run("restore", "-o", "new-volume", "--log-out", "new-log", *FILES)
+        first, files, data, _ = self.commands["restore --log-out"]
+        self.commands["restore --log-out"] = (first, files, data, (self.folder / "new-log").read_bytes())
+
+    def fill(self):
+        shutil.rmtree(self.folder, ignore_errors=True)
+        shutil.copytree(self.day, self.folder)
+        (self.folder / "out").mkdir()
+
+    def start(self, *words, stdin=subprocess.PIPE):
+        return subprocess.Popen([self.program, *map(str, words)], stdin=stdin, stdout=subprocess.PIPE,
+                                stderr=subprocess.PIPE, cwd=self.folder)
+
+    def run(self, *words, data=b""):
+        return subprocess.run([self.program, *map(str, words)], input=data, capture_output=True, timeout=MOST_SECONDS,
+                              cwd=self.folder)
+
+    def write(self, name, path, *options):
+        """One of the commands, to this path."""
+        first, files, data, _ = self.commands[name]
+        return self.run(*first, path, *options, *files, data=data)
+
+    def see(self, what, done, status, told, before=None):
+        """How it ended, what it told, and that it changed nothing."""
+        said = done.stderr.decode(errors="replace") if isinstance(done.stderr, bytes) else done.stderr
+        if done.returncode != status or said != told:
+            raise Failure(f"{what}: status {done.returncode}, standard error {said[:300]!r} in place of {told[:200]!r}")
+        if before is not None and content(self.folder) != before:
+            raise Failure(f"{what}: the files are other ones")
+        self.checks += 1
+
+    def see_kept(self, what, done, path, why, before):
+        self.see(what, done, 2, f"E29 WriteFault 0\nimgcopy: {path}: {why}: --force replaces it\n", before)
+
+
+# What stands in the place of an output: its name, its bytes, and what it is
+
+def standing(writer):
+    archive, master = (writer.day / "copy-1").read_bytes(), (writer.day / "master").read_bytes()
+    yield from (("v", writer.log, "this is a log"), ("v", writer.log[:7] + b"1" + writer.log[8:], "this is a log"),
+                ("v", b"AIMGLOG9", "this is a log"), ("log", writer.log[:64], "this is a log"),
+                ("copy-1", writer.log, "this is a log"), ("v", master, "this is a master record"),
+                ("v", archive, "this is an image copy"), ("log", archive[:100], "this is an image copy"))
+    for data in (b"", b"AIMGLO", bytes(8192)):
+        yield from (("log", data, "this may be a log, by its name"),
+                    ("master", data, "this may be a master record, by its name"),
+                    ("copy-1024", data, "this may be an image copy, by its name"))
+
+
+def replaceable():
+    yield from (("v", None), ("v", b""), ("v", b"old"), ("log", VOLUME), ("v", VOLUME), ("copy-01", b"old"),
+                ("copy-", b"old"), ("log.old", b"old"))
+
+
+def check_kept(writer):
+    for name in writer.commands:
+        made = writer.commands[name][3]
+        for target, data, why in standing(writer):
+            writer.fill()
+            path = writer.folder / "out" / target
+            path.write_bytes(data)
+            what, before = f"{name} out/{target} of {data[:8]!r}", content(writer.folder)
+            writer.see_kept(what, writer.write(name, f"out/{target}"), f"out/{target}", why, before)
+            writer.see(f"{what} --force", writer.write(name, f"out/{target}", "--force"), 0, "",
+                       before | {f"out/{target}": made})
+        for target, data in replaceable():
+            writer.fill()
+            if data is not None:
+                (writer.folder / "out" / target).write_bytes(data)
+            writer.see(f"{name} out/{target} of {data!r}", writer.write(name, f"out/{target}"), 0, "",
+                       content(writer.folder) | {f"out/{target}": made})
+    if os.geteuid():
+        writer.fill()
+        path = writer.folder / "out" / "v"
+        path.write_bytes(b"old")
+        path.chmod(0)
+        done = writer.write("redo -o", "out/v")
+        writer.see("redo -o of a file that cannot be read", done, 2, "E29 WriteFault 0\nimgcopy: out/v: this cannot be read,"
+                   " and may be a log: --force replaces it\n")
+
+
+def check_inputs(writer):
+    """An input has other names, too: links, and standard input has none."""
+    writer.fill()
+    for name, target in (("input", None), ("hard", "input"), ("soft", "input")):
+        path = writer.folder / name
+        if name == "hard":
+            path.hardlink_to(writer.folder / target)
+        elif name == "soft":
+            path.symlink_to(target)
+        else:
+            path.write_bytes(b"no log")
+    before, why = content(writer.folder), "this is an input of the same command"
+    for path in ("input", "hard", "./input", "../top/input"):
+        with open(writer.folder / "input", "rb") as source:
+            done = subprocess.run([writer.program, "redo", "-o", path], stdin=source, capture_output=True,
+                                  cwd=writer.folder, timeout=MOST_SECONDS)
+        writer.see_kept(f"redo -o {path} < input", done, path, why, before)
+        for names in (["input", "master", "copy-1"], ["log", "soft", "copy-1"], ["log", "master", "copy-1", "hard"]):
+            for option in ("-o", "--log-out"):
+                done = writer.run("restore", option, path, *names)
+                writer.see_kept(f"restore {option} {path} {names}", done, path, why, before)
+    done = writer.run("restore", "--force", "-o", "log", *FILES)
+    writer.see("restore --force -o of its input", done, 0, "", before | {"log": writer.commands["restore -o"][3]})
+
+
+# Saves
+
+def save(writer, *options):
+    return writer.run("run", "--pages", 3, "--save", "out", *options, data=writer.script)
+
+
+def check_saves(writer):
+    for name, data in (*((name, (writer.day / name).read_bytes()) for name in FILES), ("log", b""), ("master", b"x"),
+                       ("copy-1024", b"x"), ("copy-9", writer.log)):
+        writer.fill()
+        (writer.folder / "out" / name).write_bytes(data)
+        done, before = save(writer), content(writer.folder)
+        if done.stdout or b": --force replaces it\n" not in done.stderr or f"out/{name}: this ".encode() not in done.stderr:
+            raise Failure(f"run --save beside {name}: {done.stdout[:60]!r}, {done.stderr[:200]!r}")
+        writer.see(f"run --save beside {name}", done, 2, done.stderr.decode(), before)
+        done = save(writer, "--force")
+        if done.returncode or {f"out/{name}": data for name, data in content(writer.day).items()}.items() - \
+                content(writer.folder).items():
+            raise Failure(f"run --save --force beside {name}: status {done.returncode}, or other files")
+    for name, data in (("volume", VOLUME), ("copy-0", b"x"), ("copy-1025", b"x"), ("log.old", writer.log)):
+        writer.fill()
+        (writer.folder / "out" / name).write_bytes(data)
+        writer.see(f"run --save beside {name}", save(writer), 0, "")
+
+
+def check_meanwhile(writer):
+    """A log is put there while the script is played, or while the volume is made."""
+    for name in ("log", "master", "copy-2"):
+        writer.fill()
+        child = writer.start("run", "--pages", 3, "--save", "out")
+        child.stdin.write(writer.script[:100])
+        child.stdin.flush()
+        time.sleep(0.2)
+        (writer.folder / "out" / name).write_bytes((writer.day / name).read_bytes())
+        before = content(writer.folder)
+        _, child.stderr = child.communicate(writer.script[100:], timeout=MOST_SECONDS)
+        what = {"log": "a log", "master": "a master record", "copy-2": "an image copy"}[name]
+        writer.see_kept(f"{name} comes while a run plays", child, f"out/{name}", f"this is {what}", before)
+    writer.fill()
+    child = writer.start("redo", "-o", "out/v")
+    child.stdin.write(writer.log[:100])
+    child.stdin.flush()
+    wait_for(writer.folder / "out" / "v.unfinished-1")
+    (writer.folder / "out" / "v").write_bytes(writer.log)
+    _, child.stderr = child.communicate(writer.log[100:], timeout=MOST_SECONDS)
+    writer.see_kept("a log comes while a volume is made", child, "out/v", "this is a log",
+                    content(writer.day) | {"out/v": writer.log})
+
+
+def wait_for(path):
+    end = time.monotonic() + MOST_SECONDS
+    while not path.exists():
+        if time.monotonic() > end:
+            raise Failure(f"{path.name} does not come")
+        time.sleep(0.001)
+
+
+# Locks
+
+def refused_everywhere(writer, what, folder, why):
+    """No command writes a file into this folder, whatever it is told."""
+    told = f"E29 WriteFault 0\nimgcopy: {folder}: {why}\n"
+    before = content(writer.folder)
+    for options in ([], ["--force"]):
+        for name in writer.commands:
+            writer.see(f"{name}, {what}", writer.write(name, f"{folder}/x", *options), 2, told, before)
+        done = writer.run("restore", "-o", "elsewhere", "--log-out", f"{folder}/x", *options, *FILES)
+        writer.see(f"restore -o --log-out, {what}", done, 2, told, before)
+        done = writer.run("run", "--pages", 3, "--save", folder, *options, data=writer.script)
+        if done.stdout:
+            raise Failure(f"run --save, {what}: the script is played")
+        writer.see(f"run --save, {what}", done, 2, told, before)
+
+
+def check_locks(writer):
+    writer.fill()
+    with locked(writer.folder / "out"):
+        refused_everywhere(writer, "a folder that is locked", "out", OPEN)
+    database = writer.start("open", "out", "--pages", 3)
+    database.stdin.write(b"begin\nset 1 0 0 7\n")
+    database.stdin.flush()
+    wait_for(writer.folder / "out" / "log")
+    while b"lsn" not in database.stdout.readline():
+        pass
+    refused_everywhere(writer, "beside an open database", "out", OPEN)
+    done = writer.run("restore", "--log-out", "out/log", "--force", *FILES)
+    writer.see("restore --log-out over the log of an open database", done, 2,
+               f"E29 WriteFault 0\nimgcopy: out: {OPEN}\n")
+    said = database.communicate(b"commit 1\n", timeout=MOST_SECONDS)[0]
+    if database.returncode or b"lsn" not in said:
+        raise Failure(f"the open database: status {database.returncode}, {said!r}")
+    before = content(writer.folder)
+    for name in writer.commands:
+        writer.see_kept(f"{name} over the log of a closed database", writer.write(name, "out/log"), "out/log",
+                        "this is a log", before)
+    done = writer.run("run", "--pages", 3, "--save", "out", data=writer.script)
+    writer.see_kept("run --save over a closed database", done, "out/log", "this is a log", before)
+    check_links(writer)
+
+
+def check_links(writer):
+    """A log that is open by another name is not replaced, though its folder is free."""
+    writer.fill()
+    elsewhere = writer.folder / "elsewhere"
+    elsewhere.write_bytes(writer.log)
+    (writer.folder / "out" / "log").hardlink_to(elsewhere)
+    before = content(writer.folder)
+    with locked(elsewhere):
+        for name in writer.commands:
+            writer.see(f"{name} over a log that is open", writer.write(name, "out/log", "--force"), 2,
+                       "E29 WriteFault 0\nimgcopy: out/log: another one has this log open\n", before)
+        done = save(writer, "--force")
+        writer.see("run --save over a log that is open", done, 2, "E29 WriteFault 0\nimgcopy: out/log: another one has this"
+                   " log open\nimgcopy: out: no name has its new file\n", before)
+    writer.see("restore -o over a log that was open", writer.write("restore -o", "out/log", "--force"), 0, "")
+
+
+def check_at_once(writer):
+    """Many outputs go into one folder, and two of one command."""
+    writer.fill()
+    children = []
+    for number in range(AT_ONCE):
+        with open(writer.day / "log", "rb") as source:
+            children.append(writer.start("redo", "-o", f"out/v{number}", stdin=source))
+    for number, child in enumerate(children):
+        _, child.stderr = child.communicate(timeout=MOST_SECONDS)
+        writer.see(f"output {number} of {AT_ONCE} at once", child, 0, "")
+    volume = writer.commands["redo -o"][3]
+    if content(writer.folder / "out") != {f"v{number}": volume for number in range(AT_ONCE)}:
+        raise Failure(f"{AT_ONCE} outputs at once: another file is there, or one is missing")
+    restored, log = writer.commands["restore -o"][3], writer.commands["restore --log-out"][3]
+    (writer.folder / "other").mkdir()
+    for volume_path, log_path in (("out/v", "out/l"), ("out/v2", "other/l"), ("v3", "out/../l3"), ("out/v", "out/../out/m")):
+        done = writer.run("restore", "-o", volume_path, "--log-out", log_path, *FILES)
+        writer.see(f"restore -o {volume_path} --log-out {log_path}", done, 0, "")
+        if (writer.folder / volume_path).read_bytes() != restored or (writer.folder / log_path).read_bytes() != log:
+            raise Failure(f"restore -o {volume_path} --log-out {log_path}: another volume or log")
+    # One of two is refused: neither is put in place.
+    before = content(writer.folder)
+    writer.see_kept("restore -o --log-out, and the log stands", writer.run("restore", "-o", "new", "--log-out", "out/l", *FILES),
+                    "out/l", "this is a log", before)
+    writer.see_kept("restore -o --log-out over a log", writer.run("restore", "-o", "out/l", "--log-out", "new", *FILES),
+                    "out/l", "this is a log", before)
+
+
+# What killed commands leave
+
+def left(name, removed=True):
+    return f"imgcopy: out/{name}: left by a command that was cut off; it {'is removed' if removed else 'may be deleted'}\n"
+
+
+def check_leftovers(writer):
+    for name in writer.commands:
+        writer.fill()
+        out, made = writer.folder / "out", writer.commands[name][3]
+        for other in ("w.unfinished-1", "v.unfinished-x", "v.unfinished-", "av.unfinished-1", "v.unfinished-1.old"):
+            (out / other).write_bytes(b"left")
+        (out / "v.unfinished-5").symlink_to("nothing")
+        (out / "v.unfinished-6").mkdir()
+        before = content(writer.folder)
+        for number in (1, 3, 12):
+            (out / f"v.unfinished-{number}").write_bytes(b"left")
+        with locked(out / "v.unfinished-3"):
+            done = writer.write(name, "out/v")
+            done.stderr = "".join(sorted(done.stderr.decode().splitlines(keepends=True)))
+            told = "".join(sorted([left("v.unfinished-1"), left("v.unfinished-12")]))
+            writer.see(f"{name} beside what is left", done, 0, told,
+                       before | {"out/v": made, "out/v.unfinished-3": b"left"})
+        if not (out / "v.unfinished-5").is_symlink():
+            raise Failure(f"{name}: a link is removed")
+    writer.fill()
+    child = writer.start("redo", "-o", "out/v")
+    child.stdin.write(writer.log[:64])
+    child.stdin.flush()
+    wait_for(writer.folder / "out" / "v.unfinished-1")
+    time.sleep(0.2)
+    writer.see("redo -o beside one that lives", writer.write("redo -o", "out/v"), 0, "")
+    done = writer.run("run", "--pages", 3, "--save", "out", data=writer.script)
+    writer.see("run --save beside one that lives", done, 0, "")
+    child.send_signal(signal.SIGKILL)
+    child.communicate(timeout=MOST_SECONDS)
+    done = writer.run("run", "--pages", 3, "--save", "out", "--force", data=writer.script)
+    writer.see("run --save behind one that was killed", done, 0, left("v.unfinished-1", removed=False))
+    writer.see("redo -o behind one that was killed", writer.write("redo -o", "out/v"), 0, left("v.unfinished-1"))
+    if sorted(content(writer.folder / "out")) != sorted([*FILES, "v"]):
+        raise Failure(f"what is left: {sorted(content(writer.folder / 'out'))}")
+
+
+# Audits and names
+
+def check_audits(writer):
+    writer.fill()
+    told = "imgcopy: no image copy is named: name those of a chain, the full one first\n"
+    writer.see("audit without a copy", writer.run("audit", "log"), 1, told)
+    writer.see("restore without a copy", writer.run("restore", "log", "master"), 1, f"E37 ChainBroken 0\n{told}")
+    sound, copies = "sound\n", "copy-1 copy-2 copy-3"
+    for words in (f"--master master <(cat log) {copies}", f"--all <(cat log) {copies}",
+                  f"--master <(cat master) --all <(cat log) {copies}", "--all --master <(cat master) log <(cat copy-1)",
+                  f"--all log <(cat copy-1) copy-2 <(cat copy-3)"):
+        done = subprocess.run(["bash", "-c", f"{writer.program} audit {words}"], capture_output=True, cwd=writer.folder,
+                              timeout=MOST_SECONDS)
+        if (done.returncode, done.stdout.decode(), done.stderr) != (0, sound, b""):
+            raise Failure(f"audit {words}: status {done.returncode}, {done.stdout!r}, {done.stderr[:200]!r}")
+        writer.checks += 1
+    copy = bytearray((writer.folder / "copy-1").read_bytes())
+    for page in range(3):
+        copy[64 + 512 * page + 16] ^= 1
+    (writer.folder / "bad").write_bytes(copy)
+    done = subprocess.run(["bash", "-c", f"{writer.program} audit --all <(cat log) <(cat bad)"], capture_output=True,
+                          cwd=writer.folder, timeout=MOST_SECONDS)
+    if (done.returncode, done.stdout) != (1, b"E41 Unsound 1 0\nE41 Unsound 1 1\nE41 Unsound 1 2\n"):
+        raise Failure(f"audit --all of pipes: status {done.returncode}, {done.stdout!r}")
+
+
+def check_names(writer):
+    writer.fill()
+    name, shown = "a\x1b[2J\n\u202eb\\'", "a\\u{1b}[2J\\n\\u{202e}b\\'"
+    folder = writer.folder / name
+    folder.mkdir()
+    (folder / "log").write_bytes(writer.log)
+    missing = "No such file or directory (os error 2)"
+    for words, wanted in ((["redo", "-o", f"{name}/log"], f"{shown}/log: this is a log: --force replaces it"),
+                          (["redo", "-o", f"no{name}/log"], f"no{shown}: {missing}"),
+                          (["restore", f"no{name}", "master", "copy-1"], f"no{shown} (log): {missing}"),
+                          (["audit", "log", f"no{name}"], f"no{shown} (image copy): {missing}"),
+                          (["show", f"no{name}"], f"no{shown}: {missing}"), (["list", f"no{name}"], f"no{shown}: {missing}"),
+                          (["run", "--pages", 1, "--save", name], f"{shown}/log: this is a log: --force replaces it"),
+                          (["run", "--pages", 1, "--save", f"no{name}"], f"no{shown}: {missing}")):
+        said = writer.run(*words).stderr.decode()
+        if f"imgcopy: {wanted}\n" not in said or "\x1b" in said:
+            raise Failure(f"{words}: standard error {said[:200]!r}")
+        writer.checks += 1
+    for words in (["\x1b[2Jredo"], ["redo", "\x1b[2J"], ["help", "\x1b[2J"], ["run", "--pages", "\x1b[2J"]):
+        if "\x1b" in writer.run(*words).stderr.decode():
+            raise Failure(f"{words}: an escape sequence is told")
+        writer.checks += 1
+    for copy in ("copy-1\x1b", "copy-\u0661"):
+        (folder / copy).write_bytes(b"")
+    if "\x1b" in writer.run("list", name).stderr.decode():
+        raise Failure("list: an escape sequence is told")
+
+
+CHECKS = (check_kept, check_inputs, check_saves, check_meanwhile, check_locks, check_at_once, check_leftovers, check_audits,
+          check_names)
+
+
+def main(arguments):
+    try:
+        if not arguments:
+            raise Failure("usage: python3 -m checks.outputs PROGRAM [NAME]..")
+        path = shutil.which(arguments[0])
+        if path is None:
+            raise Failure(f"there is no program {arguments[0]}")
+        failed = []
+        with tempfile.TemporaryDirectory() as place:
+            writer = Writer(os.path.abspath(path), Path(place))
+            for check in CHECKS:
+                if arguments[1:] and check.__name__.removeprefix("check_") not in arguments[1:]:
+                    continue
+                try:
+                    check(writer)
+                except Failure as failure:
+                    failed.append(f"{check.__name__.removeprefix('check_')}: {failure}")
+        if failed:
+            raise Failure("\n".join(failed))
+    except (Failure, OSError, subprocess.SubprocessError) as failure:
+        sys.exit(f"outputs.py: {failure}")
+    print(f"ok outputs: what is kept stands, what is locked is let be, and what was left is removed, {writer.checks} times")
+
+
+if __name__ == "__main__":
+    main(sys.argv[1:])
