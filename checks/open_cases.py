@@ -6,14 +6,16 @@ What is refused is left as it is: a log with no header, or of the first format, 
 a log, but with what only a log leaves; a folder that another one has open, or that is not there; one where no page count
 was told. A log that was cut off before it had its header is made anew. Of copies: each reason why one is not taken up,
 and that a file whose name would be given again gets another name. Of lines: bad ones, long ones, a last one without a
-line feed, and those that are answered while more of them come. Then streams that fail.
+line feed, and those that are answered while more of them come. Then streams that fail, and such that do not wait.
 """
 
 import os
 import subprocess
 import sys
 import tempfile
+import time
 from pathlib import Path
+from threading import Thread
 
 from checks.bank_files import Failure, program_of
 from model.log_format import encode_header
@@ -300,13 +302,43 @@ def check_streams(program):
     program.checks += 1
 
 
+def check_patience(program):
+    """Streams that another one has made such that a call does not wait: they are waited for."""
+    many = b"read 0 0\n" * 20_000
+    for words, first in ((["open", program.folder(), "--pages", "1"], b"new: 1 page\n"), (["run", "--pages", "1"], b"")):
+        source, lines = os.pipe()
+        replies, target = os.pipe()
+        for end in (source, target):
+            os.set_blocking(end, False)
+        child = subprocess.Popen([program.path, *words], stdin=source, stdout=target, stderr=subprocess.PIPE)
+        os.close(source)
+        os.close(target)
+        time.sleep(0.3)
+        sender = Thread(target=send, args=(lines, many))
+        sender.start()
+        # More replies wait than a pipe takes.
+        time.sleep(0.5)
+        with open(replies, "rb") as file:
+            output = file.read()
+        sender.join()
+        said = child.communicate(timeout=MOST_SECONDS)[1]
+        if (child.returncode, said, output) != (0, b"", first + b"value 0\n" * 20_000):
+            raise Failure(f"{words[0]} with streams that do not wait: status {child.returncode}, {len(output)} bytes, {said!r:.200}")
+        program.checks += 1
+
+
+def send(end, data):
+    with open(end, "wb") as file:
+        file.write(data)
+
+
 def main(arguments):
     try:
         if len(arguments) != 1:
             raise Failure("usage: python3 -m checks.open_cases PROGRAM")
         with tempfile.TemporaryDirectory() as place:
             program = Program(program_of(arguments[0]), Path(place))
-            for check in (check_new, check_refusals, check_claim, check_copies, check_lines, check_streams):
+            for check in (check_new, check_refusals, check_claim, check_copies, check_lines, check_streams, check_patience):
                 check(program)
     except (Failure, OSError, subprocess.SubprocessError) as failure:
         sys.exit(f"open_cases.py: {failure}")
