@@ -3,9 +3,9 @@
 usage: python3 -m checks.open_flips IMGCOPY [STEP [SEED]]
 
 Two databases have a log of some 40 records, a master record, and a full and an incremental copy. One was killed with a
-transaction open, the other was closed. In one byte of each STEP, 29 where none is told and 1 for each byte, a bit is
-flipped, which is drawn by SEED; so are those of the master record, of the copies and of what a closing noted. The log is
-also cut off at each record and at places between, and each file is removed. Then the folder is opened:
+transaction open, the other was closed. In each byte, or in one of each STEP, a bit is flipped, which is drawn by SEED:
+of the log, of the master record, of the copies and of what a closing noted. The log is also cut off at each record and
+at places between, and each file is removed. Then the folder is opened:
 
 - It is refused where the model says that something forced is missing, and then all files are as they were. Else it
   opens.
@@ -32,7 +32,7 @@ from checks.open_spoils import flipped_at
 from model.lives import front_of, has_log, is_worth_keeping, reopen
 from model.log_format import HEADER_SIZE, RECORD_SIZE
 
-STEP, PAGES, GROUPS = 29, 2, 16
+STEP, PAGES, GROUPS = 1, 2, 16
 CHECKPOINT = ["ckpt", "gather", "gather", "gather", "gather", "gather", "endckpt"]
 SCRIPT = [
     "begin", "set 1 0 0 500", "set 1 1 3 7", "add 1 0 61 1", "commit 1", "wbegin 0", "wend 0", *CHECKPOINT,
