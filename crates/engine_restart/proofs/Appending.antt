@@ -1,5 +1,5 @@
 -- Undo's records, appended to a log one after another, and forced.
-use Rattle.std.proofs.Common.{ℕ, ◌≡◌, ◌+◌, ◌*◌, ◌<◌, ◌≤◌, List, [], ◌∷◌, ◌++◌, append_assoc, get_or, length, take, refl, ap, subst, sym, ◌∙◌, arith}
+use Rattle.std.proofs.Common.{ℕ, ◌≡◌, ◌+◌, ◌*◌, ◌<◌, ◌≤◌, List, [], ◌∷◌, ◌++◌, append_assoc, get_or, length, take, refl, ap, subst, subst₂, sym, ◌∙◌, arith}
 use Rattle.std.proofs.lemmas.List.{get_or_push, length-take, length_push, take_all}
 use Rattle.log_records.specs.declared.limits.TheConstants.{MAX_RECORDS}
 use Rattle.log_records.specs.declared.record.Record.{Record}
@@ -8,13 +8,14 @@ use Rattle.log_records.specs.PageCount.{GivesMore}
 use Rattle.log_records.proofs.Public.{format_in-take, format_of_log, length-log}
 use Rattle.log_records.proofs.Public.{page_count_at-all, page_count_at-append}
 use Rattle.log_store.specs.Device.{KeepsFirst}
+use Rattle.log_store.specs.Stores.{Forced, ForcesBetween, StoreCall, SyncCall}
 use Rattle.log_store.specs.WrittenLog.{HoldsLog, IsWritten, WrittenLog, first_records}
 use Rattle.loser_undo.specs.Recovery.{appended}
 use Rattle.loser_undo.specs.UndoRecords.{HasYielded, UndoView}
 use Rattle.loser_undo.proofs.Public.{log_and_appended}
 use Rattle.page_core.specs.declared.format.Format.{Format}
 use Rattle.page_core.specs.declared.format.Format.TheVariants.{Second}
-use Rattle.engine_restart.specs.Restart.{HasLasting, undone_log}
+use Rattle.engine_restart.specs.Restart.{ForcesMore, HasLasting, undone_log}
 
 -- a record behind a log may stand there
 pub record MayBeAppended (log : Log) (r : Record) : Type 0 where
@@ -107,6 +108,28 @@ has_lasting bytes lasting it log device kept all lasts log_is device_is =
       holds = held bytes it kept all;
       lasts = subst (λ (n : ℕ). n ≤ lasting it.device) all lasts;
     }))
+
+-- what a force has made of a device, once nothing but undo's records was not forced yet
+module _ {D : Type 0} (bytes : D → List ℕ) (old new : WrittenLog D) (log undone : Log) (device left : D)
+    (from : old.forced_end ≡ lsn_of (length log.records)) (was : old.device ≡ device)
+    (to : new.forced_end ≡ lsn_of (length new.log.records)) (log_is : undone ≡ new.log) (left_is : left ≡ new.device) where
+  pub forces_more : (called : StoreCall D) (synced : SyncCall D) → Forced called synced old new
+      → ForcesMore called synced log undone device left
+  forces_more called synced forced =
+      subst (λ (l : Log). ForcesMore called synced log l device left) (sym log_is)
+      (subst (λ d. ForcesMore called synced log new.log device d) (sym left_is)
+      (subst (λ d. ForcesMore called synced log new.log d new.device) was
+      (subst₂ (λ a b. ForcesBetween called synced new.log.records a b old.device new.device) from to forced)))
+
+  pub left_alone : IsWritten bytes new
+      → (old.forced_end < new.forced_end → length (bytes new.device) ≡ new.forced_end)
+      → length log.records < length undone.records → bytes left ≡ log_bytes undone
+  left_alone kept no_more grew =
+      let long : length undone.records ≡ length new.log.records = ap (λ (l : Log). length l.records) log_is in
+      let all = no_more (omega (arith, from, to, grew, long)) in
+      ap bytes left_is
+      ∙ sym (take_all (lsn_of (length new.log.records)) (bytes new.device) (omega (arith, all, to)))
+      ∙ held bytes new kept to ∙ ap log_bytes (sym log_is)
 
 -- the log lies on its device, which keeps it as long as nobody calls it
 pub stays : {D : Type 0} (bytes : D → List ℕ) (log : Log) (old new : D) → IsLog log → HoldsLog bytes log old

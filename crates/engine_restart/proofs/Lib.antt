@@ -4,6 +4,9 @@ pub mod Beginnings
 pub mod Checking
 pub mod Counting
 pub mod Founds
+pub mod Interrupted
 pub mod Lives
+pub mod LogFiles
 pub mod Restarts
 pub mod Stands
+pub mod UndoneParts

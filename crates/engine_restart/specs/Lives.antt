@@ -10,6 +10,7 @@ use Rattle.engine_rules.specs.Run.{Run}
 use Rattle.engine_calls.specs.declared.event.Answer.{Answer}
 use Rattle.engine_calls.specs.declared.event.Event.{Event}
 use Rattle.engine_calls.specs.declared.refusal.Refusal.{Refusal}
+use Rattle.engine_restart.specs.Interrupted.{IsFoundFrom}
 use Rattle.engine_restart.specs.Restart.{undone_log}
 
 -- an engine as it began, its calls and their replies, the engine as it was lost, and the log that
@@ -33,11 +34,13 @@ pub record GoesOnFrom (log : Log) (s : EngineState) : Type 0 where
   pub forced : s.forced_end ≡ lsn_of (length log.records)
   pub fit : IsFit s
 
--- each life goes on from what the one before it left, once what was open there is taken back
+-- each life goes on from what the one before it left, once what was open there is taken back; before
+-- that, any number of restarts may have been interrupted
 abbrev pub Follow : Life → List Life → Type 0
 Follow life [] = Unit {0}
 Follow life (next ∷ later) =
-    GoesOnFrom (undone_log life.left) next.began × IsLife next × Follow next later
+    ((found : Log) × IsFoundFrom life.left found × GoesOnFrom (undone_log found) next.began)
+    × IsLife next × Follow next later
 
 -- lives follow one another, and the first one begins with a new volume
 pub record AreLives (first : Life) (later : List Life) : Type 0 where

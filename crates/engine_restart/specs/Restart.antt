@@ -5,6 +5,7 @@ use Rattle.page_core.specs.declared.fault_name.FaultName.TheVariants as name
 use Rattle.page_core.specs.declared.page.Page.{Page}
 use Rattle.log_records.specs.Image.{redo_all}
 use Rattle.log_records.specs.Log.{Log, lsn_of, page_count}
+use Rattle.log_store.specs.Stores.{ForcesBetween, StoreCall, SyncCall}
 use Rattle.log_store.specs.WrittenLog.{HoldsLog}
 use Rattle.loser_undo.specs.Undo.{after_undo}
 use Rattle.copy_vault.specs.Vault.{CopyState}
@@ -22,6 +23,13 @@ pub record HasLasting {D : Type 0} (bytes : D → List ℕ) (lasting : D → ℕ
     : Type 0 where
   pub holds : HoldsLog bytes log device
   pub lasts : lsn_of (length log.records) ≤ lasting device
+
+-- what a log has on top of another one was stored on its device, each record by one call, and then
+-- synced by one; where it has nothing more, the device was not called
+abbrev pub ForcesMore : {D : Type 0} → StoreCall D → SyncCall D → Log → Log → D → D → Type 0
+ForcesMore called synced log more old new =
+    ForcesBetween called synced more.records (lsn_of (length log.records))
+    (lsn_of (length more.records)) old new
 
 -- a log in which no transaction is open, the pages that it makes, and the copies that are at hand
 pub record RestartedView : Type 0 where

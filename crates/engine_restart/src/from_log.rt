@@ -1,13 +1,14 @@
 //! Restart from a log alone.
 
-ghost use Rattle.std.specs.Prelude.{◌≡◌, [], length, IfErr, IfOk};
+ghost use Rattle.std.specs.Prelude.{◌≡◌, ◌<◌, [], length, IfErr, IfOk};
 ghost use Rattle.log_rules.specs.Linked.{IsLinked};
 ghost use Rattle.log_records.specs.Image.{redo_all};
 ghost use Rattle.page_core.specs.Volume.{AreNumbered, formatted_pages};
-ghost use Rattle.log_records.specs.Log.{IsLog, lsn_of, page_count};
+ghost use Rattle.log_records.specs.Log.{IsLog, log_bytes, lsn_of, page_count};
 ghost use Rattle.log_store.specs.Device.{KeepsFirst};
 ghost use Rattle.loser_undo.specs.Recovery.{HasCommitted};
-ghost use Rattle.engine_restart.specs.Restart.{HasLasting, IsRestarted, IsStopped, undone_log};
+ghost use Rattle.engine_restart.specs.Restart.{ForcesMore, HasLasting, IsRestarted, IsStopped};
+ghost use Rattle.engine_restart.specs.Restart.{undone_log};
 
 use crate::fault::RestartFault;
 use crate::restarted::Restarted;
@@ -40,6 +41,9 @@ pub fn restart<D: LogDevice + Drop>(
     ensures restarted { IfOk result (λ it. IsRestarted it.0) }
     ensures committed { IfOk result (λ it. HasCommitted log.records it.0.pages) }
     ensures device { IfOk result (λ it. HasLasting D.bytes D.lasting it.0.log it.1) }
+    ensures alone { IfOk result (λ it. length log.records < length it.0.log.records
+        → D.bytes it.1 ≡ log_bytes it.0.log) }
+    ensures called { IfOk result (λ it. ForcesMore D.called D.synced log it.0.log device it.1) }
     ensures fault { IfErr result (λ e. IsStopped D.failures device e.0 e.1) }
     ensures stands { IfErr result (λ e.
         KeepsFirst (lsn_of (length log.records)) (D.bytes device) (D.bytes e.1)) }

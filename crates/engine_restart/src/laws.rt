@@ -1,39 +1,55 @@
-//! A law of a database that is lost and goes on, again and again, for readers of the contracts.
+//! Laws of a database that is lost and goes on, again and again, for readers of the contracts.
 
 ghost use Rattle.std.specs.Prelude.{ℕ, ◌≡◌, ◌∷◌, List};
 ghost use Rattle.std.specs.List.{All};
 ghost use Rattle.log_records.specs.Image.{redo_all};
-ghost use Rattle.log_records.specs.Log.{page_count};
+ghost use Rattle.log_records.specs.Log.{IsLog, Log, page_count};
+ghost use Rattle.log_rules.specs.Linked.{IsLinked};
 ghost use Rattle.loser_undo.specs.Recovery.{HasCommitted};
 ghost use Rattle.image_copies.specs.Copy.{CopyView};
 ghost use Rattle.copy_vault.specs.Vault.{complete, state_of};
 ghost use Rattle.copy_coverage.specs.Copied.{Restores};
 ghost use Rattle.engine_rules.specs.AnsweredCommits.{StandsIn};
 ghost use Rattle.engine_rules.specs.EngineState.{IsFit};
+ghost use Rattle.engine_restart.specs.Interrupted.{IsFoundFrom};
 ghost use Rattle.engine_restart.specs.Lives.{AreLives, Life, commits_of, last_life};
 ghost use Rattle.engine_restart.specs.Restart.{undone_log};
 
 use copy_coverage::{a_complete_copy_restores, copies_may_be_restored};
+use loser_undo::undo_takes_back_what_is_pending;
+
+/// Undo may be interrupted, and the undo that goes on from there again (ARIES, section 3): what is
+/// taken back stays so, and no record of undo is undone. So in the end the log is the same as where
+/// nothing was interrupted, and it is no longer, however often undo began.
+pub fn undo_may_be_interrupted()
+    ensures { (log found : Log) → IsLog (undone_log log) → IsLinked log.records
+        → IsFoundFrom log found → undone_log found ≡ undone_log log }
+{
+    undo_takes_back_what_is_pending();
+}
 
 /// A database may be lost any number of times. Its lives follow one another, each with its calls and
-/// its loss: whatever the devices did, and whatever the crash left of the log. After the last loss,
-/// each commit that was answered in any of the lives stands in the log; each copy that is complete
-/// then, of this life or of one before, restores what that log says; and once what was open is taken
-/// back, each slot has the number that the committed transactions of all lives have made.
+/// its loss, whatever the devices did, and whatever the crash left of the log; and each restart may
+/// be interrupted, any number of times. After the last loss, each commit that was answered in any of
+/// the lives stands in the log that is found; each copy that is complete then, of this life or of one
+/// before, restores what that log says; and once what was open is taken back, each slot has the
+/// number that the committed transactions of all lives have made.
 pub fn lives_follow_one_another()
     ensures fit { (first : Life) (later : List Life) → AreLives first later
         → IsFit (last_life first later).lost }
-    ensures commits { (first : Life) (later : List Life) → AreLives first later
-        → All (StandsIn (last_life first later).left.records) (commits_of (first ∷ later)) }
-    ensures restores { (first : Life) (later : List Life) (id : ℕ) (copy : CopyView)
+    ensures commits { (first : Life) (later : List Life) (found : Log) → AreLives first later
+        → IsFoundFrom (last_life first later).left found
+        → All (StandsIn found.records) (commits_of (first ∷ later)) }
+    ensures restores { (first : Life) (later : List Life) (found : Log) (id : ℕ) (copy : CopyView)
         → AreLives first later → let last = last_life first later in
-        state_of last.lost.copies id ≡ complete copy
-        → Restores last.lost.copies copy last.left.records }
-    ensures committed { (first : Life) (later : List Life) → AreLives first later
+        IsFoundFrom last.left found → state_of last.lost.copies id ≡ complete copy
+        → Restores last.lost.copies copy found.records }
+    ensures committed { (first : Life) (later : List Life) (found : Log) → AreLives first later
         → let left = (last_life first later).left in
-        let undone = undone_log left in
+        IsFoundFrom left found → let undone = undone_log found in
         HasCommitted left.records (redo_all undone.records (page_count undone)) }
 {
     copies_may_be_restored();
     a_complete_copy_restores();
+    undo_takes_back_what_is_pending();
 }

@@ -4,10 +4,10 @@ ghost use Rattle.std.specs.Prelude.{◌≡◌, ◌+◌, ◌<◌, ◌≤◌, leng
 ghost use Rattle.log_rules.specs.Linked.{IsLinked};
 ghost use Rattle.log_rules.specs.Transactions.{owed};
 ghost use Rattle.log_records.specs.declared.limits.TheConstants.{MAX_RECORDS};
-ghost use Rattle.log_records.specs.Log.{IsLog, lsn_of};
+ghost use Rattle.log_records.specs.Log.{IsLog, log_bytes, lsn_of};
 ghost use Rattle.log_store.specs.Device.{KeepsFirst};
 ghost use Rattle.loser_undo.specs.Losers.{AreLosersOf};
-ghost use Rattle.engine_restart.specs.Restart.{HasLasting, IsStopped, undone_log};
+ghost use Rattle.engine_restart.specs.Restart.{ForcesMore, HasLasting, IsStopped, undone_log};
 ghost use Rattle.engine_restart.specs.declared.fault.RestartFault.TheVariants.{LogFull};
 
 use crate::fault::RestartFault;
@@ -20,7 +20,8 @@ use txn_table::Losers;
 
 /// Takes back all that is open at a log's end (ARIES, section 6.3): appends undo's records, and
 /// forces them to the device that has the log. Behind the log the device may have anything; it is
-/// cut off by the first record that is stored. Where nothing is open, the device is not called.
+/// cut off by the first record that is stored, so that then the device has the log alone. Where
+/// nothing is open, the device is not called.
 ///
 /// `LogFull` comes where the records do not fit, before the first one; `OutOfMemory` where memory
 /// is refused, before the device is called; and `LogFault` where a call of the device fails. Each
@@ -36,6 +37,9 @@ pub fn take_back<D: LogDevice + Drop>(
 
     ensures undone { IfOk result (λ it. it.0 ≡ undone_log log) }
     ensures device { IfOk result (λ it. HasLasting D.bytes D.lasting it.0 it.1) }
+    ensures alone { IfOk result (λ it. length log.records < length it.0.records
+        → D.bytes it.1 ≡ log_bytes it.0) }
+    ensures called { IfOk result (λ it. ForcesMore D.called D.synced log it.0 device it.1) }
     ensures room { OnOk result (length log.records + owed log.records ≤ MAX_RECORDS) }
     ensures full { IfErr result (λ e. e.0 ≡ LogFull
         → MAX_RECORDS < length log.records + owed log.records) }
@@ -66,6 +70,9 @@ fn append_all<D: LogDevice + Drop>(
     requires room { length log.records + owed log.records ≤ MAX_RECORDS }
     ensures undone { IfOk result (λ it. it.0 ≡ undone_log log) }
     ensures device { IfOk result (λ it. HasLasting D.bytes D.lasting it.0 it.1) }
+    ensures alone { IfOk result (λ it. length log.records < length it.0.records
+        → D.bytes it.1 ≡ log_bytes it.0) }
+    ensures called { IfOk result (λ it. ForcesMore D.called D.synced log it.0 device it.1) }
     ensures fault { IfErr result (λ e. IsStopped D.failures device e.0 e.1) }
     ensures full { IfErr result (λ e. ¬ (e.0 ≡ LogFull)) }
     ensures stands { IfErr result (λ e.

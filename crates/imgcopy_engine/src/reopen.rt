@@ -2,20 +2,18 @@
 
 ghost use Rattle.std.specs.Prelude.{◌≡◌, IfOk};
 ghost use Rattle.buffer_pool.specs.Pool.{IsFrameCount};
+ghost use Rattle.log_front.specs.Front.{IsFrontOf};
 ghost use Rattle.log_rules.specs.Linked.{IsLinked};
-ghost use Rattle.log_records.specs.Log.{Log};
-ghost use Rattle.engine_restart.specs.Lives.{GoesOnFrom};
-ghost use Rattle.engine_restart.specs.Restart.{HasLasting};
-ghost use Rattle.file_devices.specs.FileLog.{known_of};
+ghost use Rattle.engine_restart.specs.LogFile.{GoesOnFromFile, LastsOnFile, WasReadWhole};
 
 use aries_core::Engine;
 use copy_vault::CompleteCopy;
-use engine_restart::{FoundFault, RestartFault, Restarted, log_in, restart, store_of};
+use engine_restart::{
+    FoundFault, FoundLog, FoundLogFault, RestartFault, Restarted, found_log, restart, store_of,
+};
 use file_devices::{FailedFile, FileLog, FileStore};
 use log_front::Cut;
-use log_records::MAX_LOG_BYTES;
-use log_store::LogImage;
-use page_core::{FaultName, zeros};
+use page_core::FaultName;
 use std::alloc::{AllocError, Global};
 use std::fmt;
 use std::fs::File;
@@ -39,11 +37,14 @@ pub struct Reopened {
 #[derive(Drop)]
 pub enum ReopenFault {
     OutOfMemory,
+    /// The file of the log has so many bytes, more than `MAX_FILE_BYTES`. It was not read.
+    TooLong(u64),
     /// The file of the log cannot be read, or that of the volume not be written.
     File(FailedFile),
     /// The file of the log has no header of a log.
     Found(FoundFault),
-    /// What was open in the log could not be taken back.
+    /// What was open in the log could not be taken back, or a call of the log's file failed before
+    /// that, once the log was found.
     Restart(RestartFault),
     /// No engine goes on with the log.
     Tables(TablesFault),
@@ -53,6 +54,7 @@ impl fmt::Display for ReopenFault {
     fn fmt<W: fmt::Write>(&self, f: &mut fmt::Formatter<W>) -> fmt::Result {
         match self {
             ReopenFault::OutOfMemory => write!(f, "{}", FaultName::OutOfMemory),
+            ReopenFault::TooLong(_) => write!(f, "{}", FaultName::TooLong),
             ReopenFault::File(why) => write!(f, "{why}"),
             ReopenFault::Found(why) => write!(f, "{why}"),
             ReopenFault::Restart(why) => write!(f, "{why}"),
@@ -77,18 +79,21 @@ impl From<AllocError> for ReopenFault {
     }
 }
 
-/// A log that was read, and the device that has it.
-#[derive(Drop)]
-struct FoundLog {
-    log: LogImage,
-    cut: Option<Cut>,
-    device: FileLog,
+impl From<FoundLogFault> for ReopenFault {
+    fn from(fault: FoundLogFault) -> ReopenFault {
+        match fault {
+            FoundLogFault::OutOfMemory => ReopenFault::OutOfMemory,
+            FoundLogFault::TooLong(len) => ReopenFault::TooLong(len),
+            FoundLogFault::File(why) => ReopenFault::File(why),
+            FoundLogFault::Found(why, _) => ReopenFault::Found(why),
+        }
+    }
 }
 
 /// Opens a database again from the file of its log, which has so many bytes, and from the archives
-/// of the copies that are at hand, those on which others stand first. What was open is taken back on
-/// the log, and each slot has its committed number. The file of the volume is emptied, and gets the
-/// pages that the log makes.
+/// of the copies that are at hand, those on which others stand first. All of the file is read; what
+/// stands behind the log in it is cut off; what was open is taken back on the log, and each slot has
+/// its committed number. The file of the volume is emptied, and gets the pages that the log makes.
 pub fn reopen_files(
     rt: &(impl Threads + Sync),
     alloc: Global,
@@ -98,10 +103,16 @@ pub fn reopen_files(
     volume: File,
 ) -> Result<Reopened, ReopenFault>
     requires frames { IsFrameCount frames }
-    ensures goes_on { IfOk result (λ it. (log : Log) × GoesOnFrom log it.engine.state) }
+    ensures goes_on { IfOk result (λ it.
+        GoesOnFromFile log.1 it.cut it.engine.device it.engine.state) }
 {
     let (file, len) = log;
-    let FoundLog { log, cut, device } = read_log(alloc, file, len)?;
+    let FoundLog {
+        log,
+        cut,
+        device,
+        ..
+    } = log_alone(alloc, file, len)?;
     // A log that is read is one.
     let _count = log.pages();
     let (mut restarted, device) = match restart(rt, alloc, log, device) {
@@ -123,6 +134,23 @@ pub fn reopen_files(
     }
 }
 
+/// The log in its file of so many bytes, which has it alone then. What stands behind the log is cut
+/// off, and that lasts, before a record is stored there: else a loss of power might leave old records
+/// behind new ones.
+fn log_alone(alloc: Global, file: File, len: u64) -> Result<FoundLog, ReopenFault>
+    ensures read { IfOk result (λ it. WasReadWhole len it.bytes.items it.device) }
+    ensures front { IfOk result (λ it.
+        IsFrontOf it.bytes.items (record { log = it.log; cut = it.cut })) }
+    ensures linked { IfOk result (λ it. IsLinked it.log.records) }
+    ensures lasting { IfOk result (λ it. LastsOnFile it.log it.device) }
+{
+    let mut found = found_log(alloc, file, len)?;
+    match found.keep_front() {
+        Ok(()) => Ok(found),
+        Err(_) => Err(ReopenFault::Restart(RestartFault::LogFault)),
+    }
+}
+
 /// Takes up the copies that are sound, and answers how many these are.
 fn take_up(alloc: Global, restarted: &mut Restarted, copies: Vec<CompleteCopy>) -> u32
     ensures log { restarted.new.log ≡ restarted.old.log }
@@ -135,26 +163,4 @@ fn take_up(alloc: Global, restarted: &mut Restarted, copies: Vec<CompleteCopy>) 
         }
     }
     count
-}
-
-/// Reads the front of a log's file of so many bytes. It writes nothing.
-fn read_log(alloc: Global, file: File, len: u64) -> Result<FoundLog, ReopenFault>
-    ensures linked { IfOk result (λ it. IsLinked it.log.records) }
-    ensures device { IfOk result (λ it.
-        HasLasting (λ calls. (known_of calls).bytes) (λ calls. (known_of calls).lasting)
-        it.log it.device) }
-{
-    // One byte more than the longest log has shows that there are more.
-    let count = usize::try_from(len)
-        .unwrap_or(MAX_LOG_BYTES)
-        .min(MAX_LOG_BYTES + 1);
-    let mut bytes = zeros(alloc, count)?;
-    let device = match FileLog::resume(file, &mut bytes) {
-        Ok(device) => device,
-        Err(why) => return Err(ReopenFault::File(why)),
-    };
-    match log_in(alloc, &bytes) {
-        Ok((log, cut)) => Ok(FoundLog { log, cut, device }),
-        Err(fault) => Err(ReopenFault::Found(fault)),
-    }
 }

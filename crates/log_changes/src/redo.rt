@@ -11,19 +11,21 @@ ghost use Rattle.log_changes.specs.Placed.{redone_each};
 
 use crate::placed_change::PlacedChange;
 use page_core::{Lsn, Page};
-use std::thread::{Threads, for_each_chunk_mut};
+use rayon::prelude::*;
+use std::thread::Threads;
 
 /// So many changes are worth the threads: to start these takes as long as some thousand changes.
 pub const MANY_CHANGES: usize = 16_384;
 
-/// The pages are split into at most so many pieces, of which each is a thread's.
+/// The pages are split into at most so many pieces. Few large ones: each of them costs a pass over
+/// all changes.
 const PIECES: usize = 4;
 
 /// Redoes the changes of a log from a redo point on, over the pages of its volume: on each page the
 /// changes at or above that point that are above the page's LSN, in their order. Where there are
-/// many, the pages are split into pieces, and for each piece a thread goes over these changes; a
-/// few changes are redone by the calling thread. It allocates nothing, and it never refuses: a
-/// piece for which no thread can be started is redone by another thread.
+/// many, the pages are split into pieces, which rayon shares among threads, and each piece goes over
+/// these changes; a few changes are redone by the calling thread. It allocates nothing, and it never
+/// refuses: a piece for which no thread can be started is redone by another thread.
 pub fn redo_changes(
     rt: &(impl Threads + Sync),
     pages: &mut [Page],
@@ -40,11 +42,11 @@ pub fn redo_changes(
         return;
     }
     let size = pages.len().div_ceil(PIECES);
-    for_each_chunk_mut(
+    par_chunks_mut_for_each(
         rt,
         pages,
         size,
-        &|first: usize, piece: &mut [Page]|
+        |first: usize, piece: &mut [Page]|
             requires { AreNumberedFrom first piece.old }
             ensures { piece.new ≡ map (redone_each left.entry.now from) piece.old }
         { redo_piece(piece, first, left, from) },

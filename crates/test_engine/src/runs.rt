@@ -1,5 +1,6 @@
 //! Scripts with their replies, and the pages that their last restore gives.
 
+ghost use Rattle.buffer_pool.specs.Pool.{IsFrameCount};
 ghost use Rattle.log_records.specs.Log.{IsPageCount};
 
 use crate::asserts::{same, same_at};
@@ -7,8 +8,8 @@ use crate::calls::{Row, put_part, script_of};
 use crate::rows;
 use crate::rows::growth;
 use aries_core::Setup;
+use buffer_pool::MAX_FRAMES;
 use media_restore::{LoadFault, Refused};
-use page_core::MAX_PAGES;
 use script_run::{FinishFault, finish_script, run_script};
 use std::process::Abort;
 use std::thread::Threads;
@@ -17,19 +18,16 @@ use std::thread::Threads;
 /// tells what comes of the restore.
 fn outcome_of(
     rt: &(impl Abort + AllocGlobal + Threads + Sync),
-    pages: u32,
+    setup: Setup,
     parts: &[&str],
     restore: &str,
 ) -> Result<(), FinishFault>
-    requires { IsPageCount pages }
+    requires pages { IsPageCount setup.pages }
+    requires frames { IsFrameCount setup.frames }
 {
     let alloc = rt.alloc();
     let (mut script, mut output) = script_of(rt, parts);
     put_part(rt, &mut script, &mut output, restore);
-    let setup = Setup {
-        pages,
-        frames: MAX_PAGES,
-    };
     let mut written = Vec::new(alloc);
     let ran = run_script(alloc, setup, &mut script.as_bytes(), &mut written).expect(rt, "a run");
     let outcome = finish_script(rt, alloc, ran, &mut written);
@@ -58,9 +56,11 @@ const OF_TWO_PAGES: &str = "
     page 1 lsn 256 0=9
 ";
 
-/// Rows, a restore after each with its lines, or none, and what comes of it.
-static RUNS: [(Row, &str, Result<(), FinishFault>); 32] = [
-    (rows::SUM_WRAPS, "", Ok(())),
+/// A row, a restore after it with its lines, or none, and what comes of it.
+type Run = (Row, &'static str, Result<(), FinishFault>);
+
+/// Copies of each kind beside writes.
+static COPIED: [Run; 6] = [
     (rows::CHANGED_AFTER_A_COPY, OF_TWO_PAGES, Ok(())),
     (
         rows::COPIED_WHEN_DIRTY,
@@ -88,6 +88,10 @@ static RUNS: [(Row, &str, Result<(), FinishFault>); 32] = [
         "restore 1 all -> page 0 lsn 128 0=5",
         Ok(()),
     ),
+];
+
+static RUNS: [Run; 26] = [
+    (rows::SUM_WRAPS, "", Ok(())),
     // All records are kept, the Set is lost, and a forced record is lost.
     (
         rows::ADDED_AND_SET,
@@ -184,17 +188,38 @@ static RUNS: [(Row, &str, Result<(), FinishFault>); 32] = [
     ),
 ];
 
+/// Asserts each of these runs, with so many frames.
+fn assert_runs(rt: &(impl Abort + AllocGlobal + Threads + Sync), frames: u32, table: &[Run])
+    requires { IsFrameCount frames }
+{
+    for (row, restore, wanted) in table {
+        let setup = Setup {
+            pages: row.pages(rt),
+            frames,
+        };
+        let outcome = outcome_of(rt, setup, row.parts, restore);
+        same_at(rt, &outcome, wanted, &row.parts);
+    }
+}
+
 #[test]
 fn scripts_are_answered_and_restored(rt: HostRuntime) {
-    for (row, restore, wanted) in &RUNS {
-        let outcome = outcome_of(&rt, row.pages(&rt), row.parts, restore);
-        same_at(&rt, &outcome, wanted, &row.parts);
-    }
+    assert_runs(&rt, MAX_FRAMES, &COPIED);
+    assert_runs(&rt, MAX_FRAMES, &RUNS);
+}
+
+#[test]
+fn copies_are_answered_and_restored_with_one_frame(rt: HostRuntime) {
+    assert_runs(&rt, 1, &COPIED);
 }
 
 #[test]
 fn sixty_four_transactions_are_open(rt: HostRuntime) {
     let row = rows::sixty_four_transactions(&rt);
-    let outcome = outcome_of(&rt, 1, &[&row], "");
+    let setup = Setup {
+        pages: 1,
+        frames: MAX_FRAMES,
+    };
+    let outcome = outcome_of(&rt, setup, &[&row], "");
     same(&rt, &outcome, &Ok(()));
 }

@@ -211,12 +211,34 @@ const NEXT_CHECKPOINT: &str = "
     endckpt -> point 448 640 128
 ";
 
-static CHECKPOINTS: [Failing; 1] = [Failing {
-    first: 2,
-    end: 8,
-    place: 7,
-    parts: &[UNTIL_AN_END, NEXT_CHECKPOINT],
-}];
+/// The end of an engine's first checkpoint is not forced. Only the next one can be copied.
+const FIRST_CHECKPOINT: &str = "
+    ckpt -> lsn 64
+    gather -> more
+    gather -> done
+    endckpt -> E23 LogFault
+    full -> E16 NoMaster
+    ckpt -> lsn 192
+    gather -> more
+    gather -> done
+    endckpt -> point 192 256 192
+    full -> copy 1
+";
+
+static CHECKPOINTS: [Failing; 2] = [
+    Failing {
+        first: 2,
+        end: 8,
+        place: 7,
+        parts: &[UNTIL_AN_END, NEXT_CHECKPOINT],
+    },
+    Failing {
+        first: 2,
+        end: 4,
+        place: 3,
+        parts: &[FIRST_CHECKPOINT],
+    },
+];
 
 /// Makes the calls up to the first end of a checkpoint on a device whose `k`-th call fails, and
 /// asserts that no checkpoint is complete then.

@@ -5,7 +5,6 @@ ghost use Rattle.buffer_pool.specs.Pool.{IsFrameCount};
 
 use super::{device_of, failing_store};
 use crate::calls::{call, calls_of};
-use crate::rows;
 use aries_core::{Engine, Setup};
 use std::process::Abort;
 
@@ -118,19 +117,4 @@ const SET_AFTER_A_FETCH: &str = "
 #[test]
 fn a_set_knows_the_number_before_it_of_a_fetched_page(rt: HostRuntime) {
     assert_calls(&rt, 2, 1, 0, &[SET_AFTER_A_FETCH]);
-}
-
-#[test]
-fn earlier_rows_go_with_one_frame(rt: HostRuntime) {
-    for row in [
-        rows::CHANGED_AFTER_A_COPY,
-        rows::COPIED_WHEN_DIRTY,
-        rows::COPIED_BEHIND_THE_CURSOR,
-        rows::COPIED_AFTER_A_CHANGED_WRITE,
-        rows::TAKEN_AT_THE_REDO_POINT,
-        rows::ADDED_BEFORE_A_COPY,
-    ] {
-        let pages = row.pages(&rt);
-        assert_calls(&rt, pages, 1, 0, row.parts);
-    }
 }

@@ -5,6 +5,7 @@ ghost use Rattle.log_records.specs.Log.{IsPageCount};
 ghost use Rattle.page_core.specs.Volume.{formatted_pages};
 
 use super::{called_on, damaged_store, failing_device, failing_store, setup_of, store_of};
+use crate::asserts::same_at;
 use crate::calls::{Calls, answers, calls_of};
 use crate::rows;
 use aries_core::Engine;
@@ -78,20 +79,15 @@ fn answers_so(
     is_so
 }
 
-/// The damage comes after as many calls of the store as there are up to the page's write. No other
-/// number of calls gives these answers.
+/// The damage comes after the four calls of the store up to the page's write: both takes, the fetch
+/// for the change, and the write. No other number of calls gives these answers.
 #[test]
 fn a_damaged_page_is_repaired(rt: HostRuntime) {
     let calls = calls_of(&rt, &[rows::IDLE, DAMAGED]);
-    let mut found = None;
     for k in 0..8u64 {
         let store = damaged_store(&rt, 2, PageNo(0), k);
-        if answers_so(&rt, 2, store, &calls) {
-            assert!(&rt; found.is_none());
-            found = Some(k);
-        }
+        same_at(&rt, &answers_so(&rt, 2, store, &calls), &(k == 4), &k);
     }
-    assert!(&rt; found.is_some());
 }
 
 /// The call that fails is the one that stores the repaired page.

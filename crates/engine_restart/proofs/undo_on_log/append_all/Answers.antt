@@ -3,7 +3,8 @@ use Rattle.log_records.specs.declared.record.Record.{Record}
 use Rattle.log_records.specs.Log.{Log, lsn_of, with_next}
 use Rattle.loser_undo.specs.UndoRecords.{HasYielded, UndoView}
 use Rattle.loser_undo.proofs.Public.{nothing_yet}
-use Rattle.engine_restart.proofs.Appending.{MayBeAppended, all_appended, has_lasting, next_appended, next_may, stays}
+use Rattle.engine_restart.proofs.Appending.{MayBeAppended, all_appended, forces_more, has_lasting, left_alone}
+use Rattle.engine_restart.proofs.Appending.{next_appended, next_may, stays}
 use Rattle.engine_restart.proofs.undo_on_log.append_all.Goals as goal
 
 pub loop-next-init : goal.loop-next-init
@@ -71,3 +72,21 @@ returns-in-Ok-clause-device g c =
     has_lasting D.bytes D.lasting c.force.new.self parts.result.0 parts.result.1 parts.ensures.kept
     (c.in-Ok.ensures.forced ∙ ap (λ (l : Log). lsn_of (length l.records)) (sym c.force.ensures.same))
     parts.ensures.lasts parts.ensures.log parts.ensures.device
+
+pub returns-in-Ok-clause-called : goal.returns-in-Ok-clause-called
+returns-in-Ok-clause-called g c =
+    let D = g.D.LogDevice in
+    let parts = c.into_parts-in-Ok in
+    forces_more D.bytes c.loop-next.written c.force.new.self c.args.log parts.result.0 c.args.device parts.result.1
+    c.loop-next.invariant.forced_end c.loop-next.invariant.device
+    (c.in-Ok.ensures.forced ∙ ap (λ (l : Log). lsn_of (length l.records)) (sym c.force.ensures.same))
+    parts.ensures.log parts.ensures.device D.called D.synced c.in-Ok.ensures.called
+
+pub returns-in-Ok-clause-alone : goal.returns-in-Ok-clause-alone
+returns-in-Ok-clause-alone g c =
+    let D = g.D.LogDevice in
+    let parts = c.into_parts-in-Ok in
+    left_alone D.bytes c.loop-next.written c.force.new.self c.args.log parts.result.0 c.args.device parts.result.1
+    c.loop-next.invariant.forced_end c.loop-next.invariant.device
+    (c.in-Ok.ensures.forced ∙ ap (λ (l : Log). lsn_of (length l.records)) (sym c.force.ensures.same))
+    parts.ensures.log parts.ensures.device parts.ensures.kept c.in-Ok.ensures.nothing_more

@@ -1,7 +1,8 @@
 use Rattle.std.proofs.Common.{subst, sym, ◌∙◌}
 use Rattle.log_records.specs.Log.{Log}
-use Rattle.file_devices.specs.FileLog.{known_of}
-use Rattle.engine_restart.specs.Restart.{HasLasting}
+use Rattle.engine_restart.specs.LogFile.{LastsOnFile, WasReadWhole}
+use Rattle.engine_restart.specs.Lives.{GoesOnFrom}
+use Rattle.imgcopy_engine.proofs.LogFound.{calls_go_on, still_read}
 use Rattle.imgcopy_engine.proofs.PagesFound.{are_counted, are_numbered}
 use Rattle.imgcopy_engine.proofs.reopen.reopen_files.Goals as goal
 
@@ -23,5 +24,23 @@ store_of-requires-clause-numbered g c = are_numbered c.take_up-copies.new.restar
 
 pub into_engine-requires-clause-device : goal.into_engine-requires-clause-device
 into_engine-requires-clause-device g c =
-    subst (λ (log : Log). HasLasting (λ calls. (known_of calls).bytes) (λ calls. (known_of calls).lasting) log
-    c.in-Ok.it.1) (sym c.take_up-copies.ensures.log) c.in-Ok.ensures.device
+    subst (λ (log : Log). LastsOnFile log c.in-Ok.it.1) (sym c.take_up-copies.ensures.log) c.in-Ok.ensures.device
+
+pub returns-in-Ok-into_engine : goal.returns-in-Ok-into_engine
+returns-in-Ok-into_engine g c =
+    let found = c.in_ok-log.field-0 in
+    let bytes = found.bytes.items in
+    let undone = c.in-Ok.it in
+    let go_on = calls_go_on found.log undone.0.log found.device undone.1 c.in-Ok.ensures.called in
+    let it = c.in-Ok-into_engine in
+    record {
+      goes_on = record {
+        bytes = bytes;
+        log = found.log;
+        read = subst (WasReadWhole c.args.log.1 bytes) (sym it.ensures.device)
+            (still_read c.args.log.1 bytes found.device undone.1 c.in_ok-log.ensures.read go_on);
+        front = c.in_ok-log.ensures.front;
+        goes_on = subst (λ (l : Log). GoesOnFrom l it.engine.state)
+            (c.take_up-copies.ensures.log ∙ c.in-Ok.ensures.log) it.ensures.goes_on;
+      };
+    }

@@ -18,13 +18,13 @@ pub returns : goal.returns
 returns g c = λ log valid is.
     let pages = c.args.pages.now in
     let left = c.changes_from-left.result.now in
-    let new = c.for_each_chunk_mut.new.s in
+    let new = c.par_chunks_mut_for_each.new.s in
     let step = redone_each left c.args.from in
-    let long : length new ≡ length pages = c.for_each_chunk_mut.auto.s in
+    let long : length new ≡ length pages = c.par_chunks_mut_for_each.auto.s in
     let again = length-map pages step in
     same_lists new (map step pages) (omega arith) (λ k d lt.
     let below : k < length pages = omega arith in
-    let at = (c.for_each_chunk_mut.ensures.by_index k d below).1 in
+    let at = (c.par_chunks_mut_for_each.ensures.by_index k d below).1 in
     in_piece step pages new at.argument.now at.after_call.now k at.offset d below at.offset_in_chunk at.old_element
     at.call at.new_element)
     ∙ same_redone c.args.from left c.args.changes.now pages

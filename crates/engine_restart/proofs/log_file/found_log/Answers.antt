@@ -1,11 +1,11 @@
 use Rattle.std.proofs.Common.{◌≡◌, ◌++◌, ap, drop, length, sym, take, ◌∙◌}
 use Rattle.std.proofs.Math.Seq.{take-append_seam}
 use Rattle.file_devices.specs.FileLog.{known_of}
-use Rattle.imgcopy_engine.proofs.LogFound.{has_lasting}
-use Rattle.imgcopy_engine.proofs.reopen.read_log.Goals as goal
+use Rattle.engine_restart.proofs.LogFiles.{has_lasting}
+use Rattle.engine_restart.proofs.log_file.found_log.Goals as goal
 
-pub returns-in-Ok-log_in-clause-device : goal.returns-in-Ok-log_in-clause-device
-returns-in-Ok-log_in-clause-device c =
+pub returns-in-Ok-log_in-clause-lasting : goal.returns-in-Ok-log_in-clause-lasting
+returns-in-Ok-log_in-clause-lasting c =
     let known = c.deref.result.now in
     let new = c.resume.new.buffer in
     let rest = drop (length new) c.in_ok-bytes.bytes.items in

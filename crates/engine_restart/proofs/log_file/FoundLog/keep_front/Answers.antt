@@ -1,0 +1,33 @@
+use Rattle.std.proofs.Common.{◌≡◌, ◌≤◌, length, take, arith, ap, ◌∙◌}
+use Rattle.std.proofs.lemmas.List.{length-take}
+use Rattle.log_records.specs.Log.{log_bytes, lsn_of}
+use Rattle.file_devices.specs.FileLog.{known_of}
+use Rattle.engine_restart.proofs.LogFiles.{both_ok, front_there, has_alone}
+use Rattle.engine_restart.proofs.log_file.FoundLog.keep_front.Goals as goal
+
+pub slice_bounds-keep-end : goal.slice_bounds-keep-end
+slice_bounds-keep-end c =
+    let found = c.args.self.now in
+    let there : lsn_of (length found.log.records) ≤ length found.bytes.items =
+    front_there found.log found.bytes.items found.spelled in
+    omega (
+      arith,
+      there,
+      c.end-2.view_is ∙ c.end.ensures,
+      length-take c.end-2.inside.0 c.deref.result.now,
+      ap length c.deref.ensures.value,
+    )
+
+pub returns-clause-lasting : goal.returns-clause-lasting
+returns-clause-lasting c =
+    let found = c.args.self.now in
+    let bytes = c.deref.result.now in
+    let front = take c.end-2.inside.0 bytes in
+    let is : front ≡ log_bytes found.log =
+    ap (λ end. take end bytes) (c.end-2.view_is ∙ c.end.ensures)
+    ∙ ap (take (lsn_of (length found.log.records))) c.deref.ensures.value
+    ∙ found.spelled in
+    both_ok c.keep.result _ _ _
+    (λ has lasts. has_alone (λ calls. (known_of calls).bytes) (λ calls. (known_of calls).lasting) found.log
+    c.keep.new.self front has lasts is)
+    c.keep.ensures.bytes c.keep.ensures.lasts

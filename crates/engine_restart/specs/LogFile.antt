@@ -1,0 +1,61 @@
+-- The file of a log, as it was read.
+use Rattle.std.specs.Prelude.{ℕ, ◌≡◌, ◌<◌, List, [], ◌∷◌, ◌++◌, length, Option}
+use Rattle.engine_rules.specs.EngineState.{EngineState}
+use Rattle.file_devices.specs.Calls.{done}
+use Rattle.file_devices.specs.FileLog.{ResumeFails, known_of}
+use Rattle.file_devices.specs.declared.calls.FileCall.{FileCall}
+use Rattle.file_devices.specs.declared.calls.Request.TheVariants.{Read, SetLen, Sync, Write}
+use Rattle.log_front.specs.declared.cut.Cut.{Cut}
+use Rattle.log_front.specs.Front.{IsFrontOf}
+use Rattle.log_records.specs.Log.{Log}
+use Rattle.engine_restart.specs.Found.{FindsNone}
+use Rattle.engine_restart.specs.Lives.{GoesOnFrom}
+use Rattle.engine_restart.specs.Restart.{HasLasting, undone_log}
+use Rattle.engine_restart.specs.declared.log_file.TheConstants.{MAX_FILE_BYTES}
+use Rattle.engine_restart.specs.declared.log_file_fault.FoundLogFault.{FoundLogFault}
+use Rattle.engine_restart.specs.declared.log_file_fault.FoundLogFault.TheVariants.{File, Found}
+use Rattle.engine_restart.specs.declared.log_file_fault.FoundLogFault.TheVariants.{OutOfMemory}
+use Rattle.engine_restart.specs.declared.log_file_fault.FoundLogFault.TheVariants.{TooLong}
+
+-- a file of so many bytes was asked for all of them, from its first one on, and gave these; then it
+-- answered that they last; and it was asked for nothing else
+pub record IsReadWhole (len : ℕ) (bytes : List ℕ) (file : List FileCall) : Type 0 where
+  pub all : length bytes ≡ len
+  pub calls : file ≡ done (Read 0 bytes) ∷ done Sync ∷ []
+
+-- a file was asked to have this front as its first bytes, then to be cut behind it, and to sync; it
+-- did all three, and was asked for nothing else
+abbrev pub KeepsFront : List ℕ → List FileCall → List FileCall → Type 0
+KeepsFront front old new =
+    new ≡ old ++ done (Write 0 front) ∷ done (SetLen (length front)) ∷ done Sync ∷ []
+
+-- by the calls that were made of it a file begins with this log, and all of it lasts there
+abbrev pub LastsOnFile : Log → List FileCall → Type 0
+LastsOnFile log file =
+    HasLasting (λ calls. (known_of calls).bytes) (λ calls. (known_of calls).lasting) log file
+
+-- why no log was found in a file of so many bytes: they are more than are read; or the file failed
+-- to give them all or to sync; or it gave them, and they have none
+abbrev pub HasNoLog : ℕ → FoundLogFault → Type 0
+HasNoLog len OutOfMemory = Unit {0}
+HasNoLog len (TooLong count) = (count ≡ len) × (MAX_FILE_BYTES < len)
+HasNoLog len (File why) = (bytes : List ℕ) × (length bytes ≡ len) × ResumeFails bytes why
+HasNoLog len (Found fault file) =
+    (bytes : List ℕ) × IsReadWhole len bytes file × FindsNone bytes fault
+
+-- so it was at first, whatever the file was asked for later
+pub record WasReadWhole (len : ℕ) (bytes : List ℕ) (file : List FileCall) : Type 0 where
+  pub first : List FileCall
+  pub later : List FileCall
+  pub calls : file ≡ first ++ later
+  pub whole : IsReadWhole len bytes first
+
+-- an engine goes on from a file of so many bytes, all of which were read before all else: its log is
+-- the longest front of these bytes, cut there, once what was open in it is taken back
+pub record GoesOnFromFile (len : ℕ) (cut : Option Cut) (file : List FileCall) (s : EngineState)
+    : Type 0 where
+  pub bytes : List ℕ
+  pub log : Log
+  pub read : WasReadWhole len bytes file
+  pub front : IsFrontOf bytes (record { log = log; cut = cut })
+  pub goes_on : GoesOnFrom (undone_log log) s

@@ -1,0 +1,104 @@
+//! The log in a file, and the device that has it.
+
+ghost use Rattle.std.specs.Prelude.{◌≡◌, ◌<◌, drop, take, Err, IfErr, IfOk, OnErr, OnOk};
+ghost use Rattle.file_devices.specs.FileLog.{KeepFails, known_of};
+ghost use Rattle.log_front.specs.Front.{IsFrontOf, end_of};
+ghost use Rattle.log_records.specs.Log.{log_bytes};
+ghost use Rattle.log_rules.specs.Linked.{IsLinked};
+ghost use Rattle.engine_restart.specs.LogFile.{HasNoLog, IsReadWhole, KeepsFront};
+ghost use Rattle.engine_restart.specs.LogFile.{LastsOnFile};
+ghost use Rattle.engine_restart.specs.declared.log_file_fault.FoundLogFault.TheVariants.{TooLong};
+
+use crate::found::log_in;
+use crate::log_file_fault::FoundLogFault;
+use file_devices::FileLog;
+use log_front::Cut;
+use log_records::MAX_LOG_BYTES;
+use log_store::{DeviceFault, LogImage};
+use page_core::zeros;
+use std::alloc::Global;
+use std::fs::File;
+
+/// How many bytes a log's file may have at most to be read. The longest log has half of them; the
+/// others may be what an older life has left behind its log.
+pub const MAX_FILE_BYTES: usize = 2 * MAX_LOG_BYTES;
+
+/// A log that was found in a file, and the device that has it.
+#[derive(Drop)]
+pub struct FoundLog {
+    /// The longest front of the bytes that is a linked log.
+    pub log: LogImage,
+    /// Where and why the bytes behind it are left out.
+    pub cut: Option<Cut>,
+    /// All bytes of the file, as it was read.
+    pub bytes: Vec<u8>,
+    pub device: FileLog,
+    ghost spelled: { take (end_of log) bytes.items ≡ log_bytes log },
+}
+
+impl FoundLog {
+    /// The bytes behind the log.
+    pub fn behind(&self) -> &[u8]
+        ensures { result.now ≡ drop (end_of self.now.log) self.now.bytes.items }
+    {
+        let end = self.log.end().0 as usize;
+        self.bytes.get(end..).unwrap_or(&[])
+    }
+
+    /// Stores the log again as the first bytes of its file, cuts off what stands behind it, and waits
+    /// until that lasts.
+    ///
+    /// An `Err` comes where a call of the file fails, and no call follows that one. Then the file may
+    /// have anything. It takes no memory.
+    pub fn keep_front(&mut self) -> Result<(), DeviceFault>
+        ensures log { self.new.log ≡ self.old.log }
+        ensures cut { self.new.cut ≡ self.old.cut }
+        ensures read { self.new.bytes ≡ self.old.bytes }
+        ensures lasting { OnOk result (LastsOnFile self.new.log self.new.device) }
+        ensures alone { OnOk result
+            ((known_of self.new.device).bytes ≡ log_bytes self.new.log) }
+        ensures calls { OnOk result
+            (KeepsFront (log_bytes self.old.log) self.old.device self.new.device) }
+        ensures failed { OnErr result
+            (KeepFails self.old.device (log_bytes self.old.log) self.new.device) }
+    {
+        let end = self.log.end().0 as usize;
+        self.device.keep(&self.bytes[..end])
+    }
+}
+
+/// Reads the file of a log, which has so many bytes, and finds the log in it: the longest front of
+/// the bytes that is a linked log, in which each record is that was forced. All of the file is read,
+/// and then it waits until what was read lasts; it writes nothing. The file is open for reading and
+/// writing, and not for appending.
+///
+/// `TooLong` comes where there are more than `MAX_FILE_BYTES`, and then nothing is asked of the file;
+/// `OutOfMemory` where memory for the bytes is refused; `File` where the file has fewer bytes, or a
+/// call of it fails; and `Found` with the faults of `log_in`.
+pub fn found_log(alloc: Global, file: File, len: u64) -> Result<FoundLog, FoundLogFault>
+    ensures whole { IfOk result (λ it. IsReadWhole len it.bytes.items it.device) }
+    ensures front { IfOk result (λ it.
+        IsFrontOf it.bytes.items (record { log = it.log; cut = it.cut })) }
+    ensures linked { IfOk result (λ it. IsLinked it.log.records) }
+    ensures lasting { IfOk result (λ it. LastsOnFile it.log it.device) }
+    ensures too_long { MAX_FILE_BYTES < len → result ≡ Err (TooLong len) }
+    ensures none { IfErr result (HasNoLog len) }
+{
+    if len > MAX_FILE_BYTES as u64 {
+        return Err(FoundLogFault::TooLong(len));
+    }
+    let mut bytes = zeros(alloc, len as usize)?;
+    let device = match FileLog::resume(file, &mut bytes) {
+        Ok(device) => device,
+        Err(why) => return Err(FoundLogFault::File(why)),
+    };
+    match log_in(alloc, &bytes) {
+        Ok((log, cut)) => Ok(FoundLog {
+            log,
+            cut,
+            bytes,
+            device,
+        }),
+        Err(fault) => Err(FoundLogFault::Found(fault, device)),
+    }
+}
