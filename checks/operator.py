@@ -49,6 +49,9 @@ def check_strict(program, day):
     program.check(program.run("run", "--pages", 1, data=text), "run", 0, replies, "")
     program.check(program.run("run", "--pages", 1, "--strict", data=text), "run --strict", 1, replies,
                   "imgcopy: 2 of 5 calls were refused, the first at line 5: E3 PageOut\n")
+    program.check(program.run("run", "--pages", 1, "--strict", "--save", "nosuch", data=text), "run --strict --save", 2, replies,
+                  "E29 WriteFault 0\nimgcopy: nosuch: No such file or directory (os error 2)\n"
+                  "imgcopy: 2 of 5 calls were refused, the first at line 5: E3 PageOut\n")
     program.check(program.run("run", "--strict", "--pages", 3, data=day), "run --strict of a day", 0,
                   (EXAMPLES / "day.replies").read_bytes(), "")
     for text, why in ((b"sett 1", "unknown call `sett`"), (b"commit", "`commit` takes 1 number, and 0 stand here"),

@@ -177,8 +177,10 @@ run_checks() {
     check unsaved "$program" python3 -- python3 -m checks.unsaved "$program"
     check operator "$program" python3 -- python3 -m checks.operator "$program"
     check outputs "$program" python3 -- python3 -m checks.outputs "$program"
+    check output_calls "$program" python3 rustc -- preload file_calls checks.output_calls "$program"
     check log_out "$program" python3 -- python3 -m checks.log_out "$program"
     check show "$program" python3 -- python3 -m checks.show "$program"
+    check views "$program" python3 -- python3 -m checks.views "$program"
     check guide "$program" python3 -- python3 -m checks.guide "$program"
     check open_cases "$program" python3 -- python3 -m checks.open_cases "$program"
     check open_losses "$program" python3 -- python3 -m checks.open_losses "$program"
@@ -188,6 +190,7 @@ run_checks() {
     check open_tools "$program" python3 rustc -- preload file_calls checks.open_tools "$program"
     check saves_at_once "$program" python3 -- python3 -m checks.saves_at_once "$program"
     check frames "$program" python3 -- python3 -m checks.few_frames "$program"
+    check sizes "$program" python3 rustc -- preload most_memory checks.sizes "$program"
     check faults "$program" python3 -- python3 -m checks.faults "$program"
     check model "$program" python3 -- python3 -m checks.answers "$program"
     if "$uses_rt"; then

@@ -1,3 +1,4 @@
+mod CopyHeaders
 mod Points
 mod Slots
 mod Reading

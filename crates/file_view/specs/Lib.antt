@@ -1,3 +1,4 @@
+pub mod CopyHeader
 pub mod Json
 pub mod RecordText
 pub mod PageText

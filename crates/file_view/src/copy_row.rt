@@ -1,6 +1,6 @@
 //! The copies of a folder, and which of their chains are whole.
 
-use crate::copy_header::ArchiveHeader;
+use crate::copy_header::CopyHeader;
 use page_core::{FaultName, Lsn};
 use std::alloc::{AllocError, Global};
 use std::fmt;
@@ -30,7 +30,7 @@ impl fmt::Display for CopyFlaw {
 /// A copy of a folder.
 #[derive(Clone, Copy)]
 pub struct CopyRow {
-    pub header: ArchiveHeader,
+    pub header: CopyHeader,
     /// How many bytes its file has.
     pub bytes: u64,
     /// What is wrong with it itself.
@@ -59,7 +59,7 @@ impl Rows {
 
     /// Notes the next copy, whose file has so many bytes. Its id has to be above those of the
     /// copies before it, as each parent is below its child.
-    pub fn push(&mut self, header: ArchiveHeader, bytes: u64) -> Result<(), AllocError> {
+    pub fn push(&mut self, header: CopyHeader, bytes: u64) -> Result<(), AllocError> {
         let missing = if header.parent == 0 {
             None
         } else {
@@ -96,7 +96,7 @@ impl Rows {
 }
 
 /// What is wrong with a copy, whose file has so many bytes, beside a log that ends here.
-fn flaw_of(header: &ArchiveHeader, bytes: u64, end: Option<Lsn>) -> Option<CopyFlaw> {
+fn flaw_of(header: &CopyHeader, bytes: u64, end: Option<Lsn>) -> Option<CopyFlaw> {
     if bytes != header.bytes() {
         return Some(CopyFlaw::Length);
     }

@@ -1,6 +1,6 @@
 //! The line that says what a file is.
 
-use crate::copy_header::ArchiveHeader;
+use crate::copy_header::CopyHeader;
 use log_store::Master;
 use page_core::Format;
 use std::fmt;
@@ -16,7 +16,7 @@ pub enum Head {
         records: u64,
     },
     Master(Master),
-    Archive(ArchiveHeader),
+    Archive(CopyHeader),
     /// A volume with whole places of so many pages.
     Volume {
         pages: u64,
@@ -57,7 +57,7 @@ impl fmt::Display for KindJson {
     }
 }
 
-impl fmt::Display for ArchiveHeader {
+impl fmt::Display for CopyHeader {
     fn fmt<W: fmt::Write>(&self, f: &mut fmt::Formatter<W>) -> fmt::Result {
         let (id, pages, taken) = (self.id, self.pages, self.taken);
         let (begin, redo, kind) = (self.begin.0, self.redo.0, KindWords(self.parent));
@@ -70,7 +70,7 @@ impl fmt::Display for ArchiveHeader {
 
 /// The fields of an archive's header in JSON, without braces.
 #[derive(Clone, Copy)]
-pub(crate) struct HeaderJson(pub ArchiveHeader);
+pub(crate) struct HeaderJson(pub CopyHeader);
 
 impl fmt::Display for HeaderJson {
     fn fmt<W: fmt::Write>(&self, f: &mut fmt::Formatter<W>) -> fmt::Result {

@@ -17,7 +17,7 @@ mod show;
 mod summary;
 mod wanted;
 
-pub use copy_header::{ArchiveHeader, archive_header};
+pub use copy_header::{CopyHeader, read_copy_header};
 pub use copy_row::{CopyFlaw, CopyRow, Rows};
 pub use fault::ViewFault;
 pub use head::{Head, HeadJson};

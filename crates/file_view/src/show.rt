@@ -4,7 +4,7 @@ ghost use Rattle.std.specs.Prelude.{◌≡◌, ◌++◌, OnOk, codes};
 ghost use Rattle.std.specs.String.{string_bytes};
 ghost use Rattle.file_view.specs.Shown.{line_of};
 
-use crate::copy_header::archive_header;
+use crate::copy_header::read_copy_header;
 use crate::fault::ViewFault;
 use crate::head::{Head, HeadJson};
 use crate::kind::{FileKind, kind_of};
@@ -41,6 +41,10 @@ pub fn show_file<W: Write>(
         Some(FileKind::Volume) => show_volume(bytes, wanted, form, &mut lines),
         None => Err(ViewFault::BadHeader),
     };
+    // Behind a fault of the writer nothing more goes out.
+    if let Err(ViewFault::WriteFault(_)) = shown {
+        return shown;
+    }
     lines.write()?;
     shown
 }
@@ -121,13 +125,12 @@ fn show_archive<W: Write>(
     form: Form,
     lines: &mut Lines<'_, W>,
 ) -> Result<(), ViewFault> {
+    let header = read_copy_header(alloc, bytes)?;
     let done = check_archive(alloc, bytes);
     let right = right_before(&done, bytes.len());
-    if let Some(header) = archive_header(bytes) {
-        put_head(&mut lines.text, form, Head::Archive(header))?;
-        let right = &bytes[..right.min(bytes.len())];
-        show_taken(right, header.taken, wanted, form, lines)?;
-    }
+    put_head(&mut lines.text, form, Head::Archive(header))?;
+    let right = &bytes[..right.min(bytes.len())];
+    show_taken(right, header.taken, wanted, form, lines)?;
     Ok(done?)
 }
 

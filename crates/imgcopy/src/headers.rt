@@ -1,9 +1,7 @@
-//! What the header of a file says, for a person: the libraries tell nothing of a file that they
-//! refuse.
+//! What a file that is refused begins like, for a person.
 
 use log_records::HEADER_BYTES;
-use page_core::field::{u32_at, u64_at};
-use page_core::{Format, Lsn};
+use page_core::Format;
 
 /// What a file is, by the text in front of it.
 #[derive(Clone, Copy)]
@@ -29,28 +27,5 @@ pub fn last_kind(format: Format) -> u8 {
     match format {
         Format::First => 10,
         Format::Second => 11,
-    }
-}
-
-/// What the header of an archive says.
-#[derive(Clone, Copy)]
-pub struct ArchiveHeader {
-    pub pages: u32,
-    pub id: u32,
-    pub parent: u32,
-    pub begin: Lsn,
-    pub redo: u64,
-    pub taken: u32,
-}
-
-/// The numbers of a header, which stand at the same places in both formats.
-pub fn archive_header(header: &[u8; HEADER_BYTES]) -> ArchiveHeader {
-    ArchiveHeader {
-        pages: u32_at(header, 8),
-        id: u32_at(header, 12),
-        parent: u32_at(header, 20),
-        begin: Lsn(u64_at(header, 24)),
-        redo: u64_at(header, 32),
-        taken: u32_at(header, 40),
     }
 }

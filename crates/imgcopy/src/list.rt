@@ -6,8 +6,8 @@ use crate::view::bytes_of;
 use crate::{noted, patient};
 use copy_vault::ArchiveFault;
 use file_view::{
-    ArchiveHeader, CopyFlaw, Form, LogFacts, Rows, ViewFault, archive_header, facts_of, put_copies,
-    put_log,
+    CopyFlaw, CopyHeader, Form, LogFacts, Rows, ViewFault, facts_of, put_copies, put_log,
+    read_copy_header,
 };
 use log_records::HEADER_BYTES;
 use page_core::{Lsn, write_out};
@@ -123,7 +123,7 @@ fn header_of(
     rt: &HostRuntime,
     folder: &str,
     id: u32,
-) -> Result<Option<(ArchiveHeader, u64)>, AllocError> {
+) -> Result<Option<(CopyHeader, u64)>, AllocError> {
     let name = format!(in rt.alloc(); "{folder}/copy-{id}")?;
     let notes = Notes::new();
     let Some(bytes) = length_of(rt, name.as_str(), &notes) else {
@@ -172,7 +172,7 @@ fn tell_irregular(rt: &impl Eprint, name: &str) {
 }
 
 /// The header of an archive, of which nothing else is read.
-fn header_at(rt: &HostRuntime, name: &str, notes: &Notes) -> Result<ArchiveHeader, ViewFault> {
+fn header_at(rt: &HostRuntime, name: &str, notes: &Notes) -> Result<CopyHeader, ViewFault> {
     let opened = fs::open(rt, name);
     notes.note(&opened);
     let Ok(file) = opened else {
@@ -180,10 +180,7 @@ fn header_at(rt: &HostRuntime, name: &str, notes: &Notes) -> Result<ArchiveHeade
     };
     let mut bytes = [0; HEADER_BYTES];
     match noted(file, notes).read_exact(&mut bytes) {
-        Ok(()) => match archive_header(&bytes) {
-            Some(header) => Ok(header),
-            None => Err(ViewFault::Archive(ArchiveFault::BadArchive(0))),
-        },
+        Ok(()) => Ok(read_copy_header(rt.alloc(), &bytes)?),
         Err(_) => Err(ViewFault::Archive(ArchiveFault::BadArchive(0))),
     }
 }

@@ -1,7 +1,7 @@
 //! The program: its words, its input and output, and its status.
 #![tactic(auto)]
 
-ghost use Rattle.std.specs.Prelude.{◌≡◌, ◌⊎◌, IfErr, IfSome, OnOk};
+ghost use Rattle.std.specs.Prelude.{◌≡◌, ◌≢◌, ◌⊎◌, IfErr, IfSome, OnOk};
 ghost use Rattle.std.specs.Process.{exit_status};
 ghost use Rattle.buffer_pool.specs.Pool.{IsFrameCount};
 ghost use Rattle.log_records.specs.Log.{IsPageCount};
@@ -14,8 +14,10 @@ mod headers;
 mod leftovers;
 mod list;
 mod output;
+mod output_folder;
 mod read_once;
 mod reasons;
+mod redone_volume;
 mod restores;
 mod saving;
 mod strict;
@@ -28,10 +30,13 @@ use command_words::{Command, command_of, words_of};
 use event_script::MAX_SCRIPT_BYTES;
 use file_view::{Form, Wanted};
 use list::list;
-use output::{Inputs, Limits, Output, put_in_place, tell_output};
+use output::{Inputs, Limits, tell_output};
+use output_folder::OutputFolder;
 use page_core::{FaultName, Lsn, PageNo, TxnNo};
 use reasons::{Named, tell_redo};
+use redone_volume::RedoneVolume;
 use restores::{Outputs, restore};
+use saved_files::{PutFault, PutStoredFault, put_and_store};
 use saving::Saving;
 use script_run::{
     FAULT_STATUS, FinishFault, REFUSED_STATUS, Ran, RunFault, finish_script, refused_status,
@@ -186,25 +191,26 @@ fn redo_into(rt: &HostRuntime, path: &str, force: bool) -> ExitCode {
         inputs: Inputs::Standard,
         force,
     };
-    let Some(mut output) = Output::begin(rt, path, limits, &notes) else {
+    let Some(mut folder) = OutputFolder::of(rt, path, limits, &notes) else {
         return ExitCode::from(FAULT_STATUS);
     };
-    let done = redo_stream(
-        rt.alloc(),
-        &mut noted(patient(rt, rt.stdin()), &input),
-        &mut output.file,
-    );
-    let Err(fault) = &done else {
-        return put_in_place(rt, path, output, &notes);
+    let mut volume = RedoneVolume {
+        log: noted(patient(rt, rt.stdin()), &input),
     };
-    let status = status_of(rt, &done);
-    match fault {
-        Fault::ReadFault => tell_unread(rt, &input),
-        Fault::WriteFault(_) => tell_output(rt, path, &notes),
-        fault => tell_redo(rt, fault),
+    let name = folder.name();
+    match put_and_store(&mut folder, rt.alloc(), name, &mut volume) {
+        Ok(()) => ExitCode::SUCCESS,
+        Err(PutStoredFault::Unput(PutFault::Unwritten(fault))) => {
+            let status = status_of(rt, &Err(fault));
+            match &fault {
+                Fault::ReadFault => tell_unread(rt, &input),
+                Fault::WriteFault(_) => tell_output(rt, path, &notes),
+                fault => tell_redo(rt, fault),
+            }
+            status
+        }
+        Err(fault) => folder.tell_unput(&fault),
     }
-    output.drop_file();
-    status
 }
 
 /// No volume is written to a terminal.
@@ -255,10 +261,19 @@ fn run(
                 line: line_of_call(reader.given(), place),
             };
             let _ = rt.eprintln(&refusals);
-            ExitCode::from(if status == 0 { REFUSED_STATUS } else { status })
+            ExitCode::from(strict_status(status))
         }
         _ => ExitCode::from(status),
     }
+}
+
+/// The status of a strict run in which a call was refused, and which had this status else. That of
+/// a fault stays.
+fn strict_status(status: u8) -> u8
+    ensures refused { status ≡ 0 → result ≡ 1 }
+    ensures fault { status ≢ 0 → result ≡ status }
+{
+    if status == 0 { REFUSED_STATUS } else { status }
 }
 
 /// Plays a script, and answers the program's status.

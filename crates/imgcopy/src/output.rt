@@ -1,18 +1,13 @@
-//! The files that `redo -o`, `restore -o` and `restore --log-out` write. Each has a name of its own
-//! until it is put in place.
+//! What the files may replace that `redo -o`, `restore -o` and `restore --log-out` write, and the
+//! lines that tell why one was not written.
 
-use crate::leftovers::clear_leftovers;
 use crate::reasons::{Named, STANDARD_INPUT};
 use page_core::FaultName;
-use saved_files::{Folder, make_beside};
-use script_run::FAULT_STATUS;
 use std::fmt::Display;
-use std::fs::File;
+use std::fs;
 use std::io::ErrorKind;
 use std::path::Path;
-use std::process::ExitCode;
-use std::{fs, io};
-use system_files::{ClaimFault, Escaped, FileIdentity, Kept, Noted, Notes, SystemFolder, kept_at};
+use system_files::{ClaimFault, Escaped, FileIdentity, Kept, Notes, kept_at};
 
 /// What the command reads that writes an output.
 #[derive(Clone, Copy)]
@@ -33,8 +28,6 @@ pub struct Limits<'a> {
 /// Why an output cannot be written, or not be put in place.
 #[derive(Drop)]
 pub enum OutputFault {
-    /// The path names no file.
-    NoName,
     /// A folder, a device or a link has the name.
     Irregular,
     /// What has the name is kept.
@@ -47,154 +40,13 @@ pub enum OutputFault {
     System,
 }
 
-/// A file that is written beside the name that it is to have.
-#[derive(Drop)]
-pub struct Output<'a> {
-    pub file: Noted<'a, File>,
-    path: &'a str,
-    folder: SystemFolder<'a>,
-    beside: String,
-    name: &'a str,
-    limits: Limits<'a>,
-}
-
-impl<'a> Output<'a> {
-    /// Makes the file. Where it cannot be made, or may not be put in place later, that is told.
-    pub fn begin(
-        rt: &'a HostRuntime,
-        path: &'a str,
-        limits: Limits<'a>,
-        notes: &'a Notes,
-    ) -> Option<Output<'a>> {
-        match Output::made(rt, path, limits, notes) {
-            Ok(made) => Some(made),
-            Err(fault) => {
-                tell_fault(rt, path, &fault, notes);
-                None
-            }
-        }
-    }
-
-    /// Has the folder while it looks at what stands there and makes the file, so that no file is
-    /// taken for a leftover before it is locked. A file is locked as long as its writer lives.
-    fn made(
-        rt: &'a HostRuntime,
-        path: &'a str,
-        limits: Limits<'a>,
-        notes: &'a Notes,
-    ) -> Result<Output<'a>, OutputFault> {
-        let Some((folder, name)) = parts_of(path) else {
-            return Err(OutputFault::NoName);
-        };
-        look(rt, path, name, &limits)?;
-        let mut there = SystemFolder::new(rt, rt.alloc(), folder, notes).guarded(limits.force);
-        if let Err(fault) = there.claim_soon() {
-            return Err(OutputFault::Folder(fault));
-        }
-        clear_leftovers(rt, folder, name);
-        let Ok((beside, file)) = make_beside(&mut there, rt.alloc(), name) else {
-            return Err(OutputFault::System);
-        };
-        let locked = file.file.try_lock();
-        there.release();
-        let made = Output {
-            path,
-            folder: there,
-            beside,
-            name,
-            limits,
-            file,
-        };
-        if locked.is_err() {
-            made.drop_file();
-            return Err(OutputFault::System);
-        }
-        Ok(made)
-    }
-
-    /// Syncs the file, which has no other name yet.
-    pub fn sync(&mut self) -> Result<(), OutputFault> {
-        match self.folder.sync(self.beside.as_str(), &mut self.file) {
-            Ok(()) => Ok(()),
-            Err(_) => Err(OutputFault::System),
-        }
-    }
-
-    /// Has the folder, and sees that the file may still take its name.
-    pub fn claim(&mut self, rt: &HostRuntime) -> Result<(), OutputFault> {
-        match self.folder.claim_soon() {
-            Ok(()) => look(rt, self.path, self.name, &self.limits),
-            Err(fault) => Err(OutputFault::Folder(fault)),
-        }
-    }
-
-    /// The same, where another output has this folder.
-    pub fn share_claim(&mut self, rt: &HostRuntime) -> Result<(), OutputFault> {
-        match self.folder.open() {
-            Ok(()) => look(rt, self.path, self.name, &self.limits),
-            Err(_) => Err(OutputFault::System),
-        }
-    }
-
-    /// Has the file take its name, and syncs the folder.
-    pub fn place(&mut self) -> Result<(), OutputFault> {
-        match self.folder.rename(self.beside.as_str(), self.name) {
-            Ok(()) => {}
-            Err(error) => return Err(self.fault_of_rename(&error)),
-        }
-        match self.folder.sync_names() {
-            Ok(()) => Ok(()),
-            Err(_) => Err(OutputFault::System),
-        }
-    }
-
-    fn fault_of_rename(&self, error: &io::Error) -> OutputFault {
-        match self.folder.refused() {
-            Some(kept) => OutputFault::Kept(kept),
-            None if error.kind() == ErrorKind::WouldBlock => OutputFault::InUse,
-            None => OutputFault::System,
-        }
-    }
-
-    /// Removes the file: nothing is put in place.
-    pub fn drop_file(self) {
-        let Output {
-            mut folder,
-            beside,
-            file,
-            path: _,
-            name: _,
-            limits: _,
-        } = self;
-        let _ = folder.give_up(beside.as_str(), file);
-    }
-}
-
-/// Puts a file in place that was written whole, and answers the program's status.
-pub fn put_in_place(
+/// Sees that a file may take a name: nothing stands there, or a regular file that is not kept.
+pub fn look(
     rt: &HostRuntime,
     path: &str,
-    mut output: Output<'_>,
-    notes: &Notes,
-) -> ExitCode {
-    match put(rt, &mut output) {
-        Ok(()) => ExitCode::SUCCESS,
-        Err(fault) => {
-            tell_fault(rt, path, &fault, notes);
-            output.drop_file();
-            ExitCode::from(FAULT_STATUS)
-        }
-    }
-}
-
-fn put(rt: &HostRuntime, output: &mut Output<'_>) -> Result<(), OutputFault> {
-    output.sync()?;
-    output.claim(rt)?;
-    output.place()
-}
-
-/// Sees that a file may take a name: nothing stands there, or a regular file that is not kept.
-fn look(rt: &HostRuntime, path: &str, name: &str, limits: &Limits<'_>) -> Result<(), OutputFault> {
+    name: &str,
+    limits: &Limits<'_>,
+) -> Result<(), OutputFault> {
     if !is_replaceable(rt, path) {
         return Err(OutputFault::Irregular);
     }
@@ -229,7 +81,6 @@ fn is_input(rt: &HostRuntime, path: &str, inputs: &Inputs<'_>) -> bool {
 /// Tells why an output cannot be written or put in place.
 pub fn tell_fault(rt: &impl Eprint, path: &str, fault: &OutputFault, notes: &Notes) {
     match fault {
-        OutputFault::NoName => tell(rt, path, &"this names no file"),
         OutputFault::Irregular => tell(rt, path, &"this is no regular file"),
         OutputFault::Kept(kept) => tell_kept(rt, path, *kept),
         OutputFault::InUse => tell(rt, path, &"another one has this log open"),
@@ -251,6 +102,12 @@ pub fn tell_kept(rt: &impl Eprint, path: &str, kept: Kept) {
     let _ = eprintln!(rt; "imgcopy: {path}: {kept}: --force replaces it");
 }
 
+/// Tells that a file was put in place before the command met a fault.
+pub fn tell_placed(rt: &impl Eprint, path: &str) {
+    let path = Escaped(path);
+    let _ = eprintln!(rt; "imgcopy: {path}: this has its new file already");
+}
+
 /// Says why a file of the output could not be written.
 pub fn tell_output(rt: &impl Eprint, path: &str, notes: &Notes) {
     if let Some(error) = notes.error() {
@@ -267,7 +124,7 @@ pub fn tell(rt: &impl Eprint, path: &str, why: &impl Display) {
 }
 
 /// The folder and the name that a path has.
-fn parts_of(path: &str) -> Option<(&str, &str)> {
+pub fn parts_of(path: &str) -> Option<(&str, &str)> {
     match path.rsplit_once('/') {
         None => named(".", path),
         Some(("", name)) => named("/", name),

@@ -1,10 +1,10 @@
 //! What is wrong with a file that was refused, for a person: the file is read once more.
 
 use crate::chain_reason::{ChainReason, chain_reason, pages_below};
-use crate::headers::{ArchiveHeader, FileKind, archive_header, kind_of, last_kind};
+use crate::headers::{FileKind, kind_of, last_kind};
 use copy_audit::Unsound;
 use copy_vault::{ArchiveFault, CopyId};
-use file_view::ViewFault;
+use file_view::{CopyHeader, ViewFault, read_copy_header};
 use log_records::{RECORD_BYTES, log_header};
 use log_store::LogReadFault;
 use media_restore::RestoreFault;
@@ -290,8 +290,8 @@ pub fn tell_beyond(rt: &HostRuntime, names: &Named<'_>) {
     };
     for name in names.archives {
         if let Some(header) = archive_at(rt, name) {
-            if header.redo >= end {
-                let (id, reason) = (header.id, Reason::RedoPoint(header.redo, end));
+            if header.redo.0 >= end {
+                let (id, reason) = (header.id, Reason::RedoPoint(header.redo.0, end));
                 let name = Escaped(name);
                 let _ = eprintln!(rt; "imgcopy: {name} (image copy {id}): {reason}");
                 return;
@@ -305,7 +305,7 @@ pub fn tell_unsound(rt: &HostRuntime, names: &Named<'_>, copy: CopyId, page: Pag
     for name in names.archives {
         if let Some(header) = archive_at(rt, name) {
             if header.id == copy.0 {
-                let (id, reason) = (header.id, Reason::Unsound(page.0, header.redo));
+                let (id, reason) = (header.id, Reason::Unsound(page.0, header.redo.0));
                 let name = Escaped(name);
                 let _ = eprintln!(rt; "imgcopy: {name} (image copy {id}): {reason}");
                 return;
@@ -398,11 +398,12 @@ fn reason_of_count(rt: &HostRuntime, name: &str) -> Option<Reason> {
     Some(Reason::Count(there, header.taken))
 }
 
-fn archive_at(rt: &HostRuntime, name: &str) -> Option<ArchiveHeader> {
+/// The header of an archive, which is refused for something else.
+fn archive_at(rt: &HostRuntime, name: &str) -> Option<CopyHeader> {
     if !is_regular(rt, name) {
         return None;
     }
-    Some(archive_header(&bytes_at(rt, name, 0)?))
+    read_copy_header(rt.alloc(), &bytes_at(rt, name, 0)?).ok()
 }
 
 /// How many bytes a file has.

@@ -5,14 +5,15 @@ ghost use Rattle.std.specs.Process.{exit_status};
 ghost use Rattle.script_run.specs.Status.{status_of_restore};
 
 use crate::advice::{tell_input, tell_unwritten};
-use crate::output::{
-    Inputs, Limits, Output, OutputFault, have_one_folder, is_one_place, put_in_place, tell,
-    tell_fault, tell_output,
-};
+use crate::output::{Inputs, Limits, have_one_folder, is_one_place, tell, tell_output};
+use crate::output_folder::OutputFolder;
 use crate::reasons::Named;
 use crate::{noted, patient, refused_terminal};
 use media_restore::{RestoreFault, WithLogFault};
-use saved_files::{restore_volume, restore_volume_with_log};
+use saved_files::{
+    PutBothFault, PutFault, PutStoredFault, RestoreNames, Which, put_restored_both,
+    put_restored_log, put_restored_volume, restore_volume,
+};
 use script_run::{FAULT_STATUS, restore_status};
 use std::io;
 use std::io::IsTerminal;
@@ -94,32 +95,26 @@ fn restore_into(
 ) -> ExitCode {
     let (path, limits) = output;
     let (notes, written) = (Notes::new(), Notes::new());
-    let Some(mut output) = Output::begin(rt, path, limits, &written) else {
+    let Some(mut folder) = OutputFolder::of(rt, path, limits, &written) else {
         return ExitCode::from(FAULT_STATUS);
     };
     let files = SystemFiles {
         files: rt,
         notes: &notes,
     };
-    let done = restore_volume(
-        &files,
-        threads,
-        rt.alloc(),
-        names.log,
-        master,
-        names.archives,
-        &mut output.file,
-    );
-    let Err(fault) = &done else {
-        return put_in_place(rt, path, output, &written);
-    };
-    let status = status_of_files(rt, &done);
-    match fault {
-        RestoreFault::WriteFault(_) => tell_output(rt, path, &written),
-        fault => tell_input(rt, names, fault, &notes),
+    let (name, from) = (folder.name(), restored_from(names, master));
+    match put_restored_volume(&mut folder, rt.alloc(), name, &files, threads, from) {
+        Ok(()) => ExitCode::SUCCESS,
+        Err(PutStoredFault::Unput(PutFault::Unwritten(fault))) => {
+            let status = status_of_files(rt, &Err(fault));
+            match &fault {
+                RestoreFault::WriteFault(_) => tell_output(rt, path, &written),
+                fault => tell_input(rt, names, fault, &notes),
+            }
+            status
+        }
+        Err(fault) => folder.tell_unput(&fault),
     }
-    output.drop_file();
-    status
 }
 
 /// Restores a volume to standard output, and its log into a file, which is put in place once all of
@@ -131,42 +126,50 @@ fn restore_log_into(
     master: &str,
     output: (&str, Limits<'_>),
 ) -> ExitCode {
-    let (log, limits) = output;
+    let (path, limits) = output;
     if rt.stdout().is_terminal() {
         return refused_terminal(rt);
     }
-    let (notes, output, log_written) = (Notes::new(), Notes::new(), Notes::new());
-    let Some(mut log_output) = Output::begin(rt, log, limits, &log_written) else {
+    let (notes, output, written) = (Notes::new(), Notes::new(), Notes::new());
+    let Some(mut folder) = OutputFolder::of(rt, path, limits, &written) else {
         return ExitCode::from(FAULT_STATUS);
     };
     let files = SystemFiles {
         files: rt,
         notes: &notes,
     };
-    let done = restore_volume_with_log(
+    let mut volume = noted(patient(rt, io::writer(rt)), &output);
+    let (name, from) = (folder.name(), restored_from(names, master));
+    let done = put_restored_log(
+        &mut folder,
+        rt.alloc(),
+        name,
         &files,
         threads,
-        rt.alloc(),
-        names.log,
-        master,
-        names.archives,
-        &mut noted(patient(rt, io::writer(rt)), &output),
-        &mut log_output.file,
+        from,
+        &mut volume,
     );
-    let Err(fault) = &done else {
-        return put_in_place(rt, log, log_output, &log_written);
-    };
-    let status = status_of_files(rt, &Err(fault.told()));
-    match fault {
-        WithLogFault::OfLog(_) => tell_output(rt, log, &log_written),
-        WithLogFault::OfVolume(RestoreFault::WriteFault(_)) => tell_unwritten(rt, &output),
-        WithLogFault::OfVolume(fault) => tell_input(rt, names, fault, &notes),
+    match done {
+        Ok(()) => ExitCode::SUCCESS,
+        Err(PutStoredFault::Unput(PutFault::Unwritten(fault))) => {
+            let status = status_of_files(rt, &Err(fault.told()));
+            match &fault {
+                WithLogFault::OfLog(_) => tell_output(rt, path, &written),
+                WithLogFault::OfVolume(RestoreFault::WriteFault(_)) => {
+                    tell_unwritten(rt, &output);
+                }
+                WithLogFault::OfVolume(fault) => tell_input(rt, names, fault, &notes),
+            }
+            status
+        }
+        Err(fault) => folder.tell_unput(&fault),
     }
-    log_output.drop_file();
-    status
 }
 
-/// Restores a volume and its log, each into a file.
+/// Restores a volume and its log, each into a file. Both are synced, and may take their names,
+/// before the log takes its own and then the volume: so where one of them does not reach the disk,
+/// or is refused, neither has its name. Only where the log's folder cannot be synced, or the volume
+/// cannot be renamed, is the log in place alone.
 fn restore_both_into(
     rt: &HostRuntime,
     threads: &(impl Threads + Sync),
@@ -180,101 +183,94 @@ fn restore_both_into(
         return ExitCode::from(FAULT_STATUS);
     }
     let (notes, written, log_written) = (Notes::new(), Notes::new(), Notes::new());
-    let Some(mut log_output) = Output::begin(rt, log, limits, &log_written) else {
-        return ExitCode::from(FAULT_STATUS);
-    };
-    let Some(mut output) = Output::begin(rt, path, limits, &written) else {
-        log_output.drop_file();
+    let folders = folders_of(rt, (path, &written), (log, &log_written), limits);
+    let Some((mut folder, mut log_folder)) = folders else {
         return ExitCode::from(FAULT_STATUS);
     };
     let files = SystemFiles {
         files: rt,
         notes: &notes,
     };
-    let done = restore_volume_with_log(
+    let (log_name, name) = (log_folder.name(), folder.name());
+    let done = put_restored_both(
+        &mut log_folder,
+        log_name,
+        &mut folder,
+        name,
+        rt.alloc(),
         &files,
         threads,
-        rt.alloc(),
-        names.log,
-        master,
-        names.archives,
-        &mut output.file,
-        &mut log_output.file,
+        restored_from(names, master),
     );
-    let Err(fault) = &done else {
-        return put_both(
-            rt,
-            (log, log_output, &log_written),
-            (path, output, &written),
-        );
-    };
-    let status = status_of_files(rt, &Err(fault.told()));
-    match fault {
-        WithLogFault::OfLog(_) => tell_output(rt, log, &log_written),
-        WithLogFault::OfVolume(RestoreFault::WriteFault(_)) => tell_output(rt, path, &written),
-        WithLogFault::OfVolume(fault) => tell_input(rt, names, fault, &notes),
-    }
-    log_output.drop_file();
-    output.drop_file();
-    status
-}
-
-/// Puts the log in place and then the volume. Both are synced before, and may take their names: so
-/// where one of them does not reach the disk, or is refused, neither has its name.
-fn put_both(
-    rt: &HostRuntime,
-    log: (&str, Output<'_>, &Notes),
-    volume: (&str, Output<'_>, &Notes),
-) -> ExitCode {
-    let (log_path, mut log_output, log_written) = log;
-    let (path, mut output, written) = volume;
-    let done = match claimed_both(rt, log_path, &mut log_output, path, &mut output) {
-        Ok(()) => placed_both(&mut log_output, &mut output),
-        not_claimed => not_claimed,
-    };
     match done {
         Ok(()) => ExitCode::SUCCESS,
-        Err(fault) => {
-            match fault {
-                OfOne::Log(fault) => tell_fault(rt, log_path, &fault, log_written),
-                OfOne::Volume(fault) => tell_fault(rt, path, &fault, written),
+        Err(PutBothFault::Unwritten(fault)) => {
+            let status = status_of_files(rt, &Err(fault.told()));
+            match &fault {
+                WithLogFault::OfLog(_) => tell_output(rt, log, &log_written),
+                WithLogFault::OfVolume(RestoreFault::WriteFault(_)) => {
+                    tell_output(rt, path, &written);
+                }
+                WithLogFault::OfVolume(fault) => tell_input(rt, names, fault, &notes),
             }
-            log_output.drop_file();
-            output.drop_file();
+            status
+        }
+        Err(fault) => {
+            tell_unput(&log_folder, &folder, &fault);
             ExitCode::from(FAULT_STATUS)
         }
     }
 }
 
-/// Why one of two outputs was not put in place.
-#[derive(Drop)]
-enum OfOne {
-    Log(OutputFault),
-    Volume(OutputFault),
+/// The folders of a volume and of its log, each of which gets the other's name where they are one.
+fn folders_of<'a>(
+    rt: &'a HostRuntime,
+    volume: (&'a str, &'a Notes),
+    log: (&'a str, &'a Notes),
+    limits: Limits<'a>,
+) -> Option<(OutputFolder<'a>, OutputFolder<'a>)> {
+    let log_folder = OutputFolder::of(rt, log.0, limits, log.1)?;
+    let folder = OutputFolder::of(rt, volume.0, limits, volume.1)?;
+    if !have_one_folder(rt, log.0, volume.0) {
+        return Some((folder, log_folder));
+    }
+    let (log_name, name) = (log_folder.name(), folder.name());
+    Some((folder.beside(log_name), log_folder.beside(name).shared()))
 }
 
-/// Syncs both and has their folders, or the one folder that they have.
-fn claimed_both(
-    rt: &HostRuntime,
-    log_path: &str,
-    log: &mut Output<'_>,
-    path: &str,
-    volume: &mut Output<'_>,
-) -> Result<(), OfOne> {
-    volume.sync().map_err(OfOne::Volume)?;
-    log.sync().map_err(OfOne::Log)?;
-    log.claim(rt).map_err(OfOne::Log)?;
-    let claimed = if have_one_folder(rt, log_path, path) {
-        volume.share_claim(rt)
-    } else {
-        volume.claim(rt)
-    };
-    claimed.map_err(OfOne::Volume)
+/// Tells which of both is not in its place, or may not stay there, and which are.
+fn tell_unput<E>(log: &OutputFolder<'_>, volume: &OutputFolder<'_>, fault: &PutBothFault<E>) {
+    match fault {
+        PutBothFault::Unwritten(_) => {}
+        PutBothFault::Unmade(Which::First, _)
+        | PutBothFault::Unsynced(Which::First, _)
+        | PutBothFault::Unplaced(Which::First, _) => log.tell_fault(),
+        PutBothFault::Unmade(Which::Second, _) | PutBothFault::Unsynced(Which::Second, _) => {
+            volume.tell_fault();
+        }
+        PutBothFault::Unstored(Which::First, _) => {
+            log.tell_fault();
+            log.tell_placed();
+        }
+        PutBothFault::Unplaced(Which::Second, _) => {
+            volume.tell_fault();
+            log.tell_placed();
+        }
+        PutBothFault::Unstored(Which::Second, _) => {
+            volume.tell_fault();
+            log.tell_placed();
+            volume.tell_placed();
+        }
+    }
 }
 
-fn placed_both(log: &mut Output<'_>, volume: &mut Output<'_>) -> Result<(), OfOne> {
-    log.place().map_err(OfOne::Log)?;
-    volume.place().map_err(OfOne::Volume)
+/// The names of the files that a restore reads.
+fn restored_from<'a>(names: &Named<'a>, master: &'a str) -> RestoreNames<'a> {
+    RestoreNames {
+        log: names.log,
+        master,
+        archives: names.archives,
+    }
 }
 
 /// Tells why a volume is not restored from files, and answers the program's status.

@@ -1,2 +1,4 @@
+mod MemFolders
 mod Puts
+mod PutsBoth
 mod Saves

@@ -69,6 +69,11 @@ abbrev pub KeepsBeside : List ℕ → Entries → Entries → Type 0
 KeepsBeside name old new = (n : List ℕ) → n ≢ name
     → (new n ≡ old n) ⊎ ((old n ≡ absent) × IsBeside name n)
 
+-- the name has what it had, and so has every other one, but for an unfinished file where nothing
+-- stood
+abbrev pub KeepsName : List ℕ → Entries → Entries → Type 0
+KeepsName name old new = (new name ≡ old name) × KeepsBeside name old new
+
 -- a file of such bytes stands under this name, whole, and every other name keeps what stood under
 -- it: no unfinished file is left
 pub record Puts (name : List ℕ) (fits : List ℕ → Type 0) (old new : Entries) : Type 0 where

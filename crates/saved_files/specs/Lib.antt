@@ -1,6 +1,10 @@
 pub mod FileFault
-pub mod Filled
 pub mod Folder
 pub mod LateFile
+pub mod MemFolder
+pub mod Placed
+pub mod PutBoth
 pub mod PutFault
+pub mod PutStored
+pub mod Restored
 pub mod Saved

@@ -33,6 +33,12 @@ LeavesPut name gives leaves given_before given_up (Unwritten why) old new =
 LeavesPut name gives leaves given_before given_up (Unplaced why) old new =
     PutsOrKeeps name (bytes_by gives) old new × gives (Some []) given_up
 
+-- this holds where it could not be made
+abbrev pub IfUnmade : {E : Type 0} → Type 0 → PutFault E → Type 0
+IfUnmade fact (Unmade why) = fact
+IfUnmade fact (Unwritten why) = Unit {0}
+IfUnmade fact (Unplaced why) = Unit {0}
+
 -- what is printed of it, where it is of a file of known bytes
 abbrev pub line_of_put : PutFault FileFault → List ℕ
 line_of_put (Unmade why) = line_of why

@@ -13,6 +13,9 @@ pub trait Folder {
     /// A file that is being written.
     type File: Write + Drop;
 
+    /// A file that was written: no more goes out to it.
+    type Written: Drop;
+
     /// What stands under each name, as far as it is known.
     ghost entries: { Self → Option (List ℕ → FolderEntry) };
 
@@ -24,6 +27,9 @@ pub trait Folder {
 
     /// What went out to the file that was given up last, as far as it is known.
     ghost given_up: { Self → Option (List ℕ) };
+
+    /// What went out to a file that was written, as far as it is known.
+    ghost holds: { Self.Written → Option (List ℕ) };
 
     /// Takes the folder, until it is dropped, from all others that ask in this way. Where another
     /// one has it, that is an error of the kind `WouldBlock`.
@@ -43,15 +49,18 @@ pub trait Folder {
         ensures claimed { is_claimed self.new }
         ensures given_up { given_up self.new ≡ given_up self.old };
 
+    /// Ends the writing of a file, which is not closed yet.
+    fn finish(file: Self::File) -> Self::Written
+        ensures { holds result ≡ Self.File.contents file };
+
     /// Sees that all bytes of a file are stored. It has to be one that was made by this name;
     /// another one is an error.
-    fn sync(&mut self, name: &str, file: &mut Self::File) -> io::Result<()>
+    fn sync(&mut self, name: &str, file: &Self::Written) -> io::Result<()>
         requires { is_claimed self.old }
-        ensures synced { OnOk result (Changes (IsSynced name.now (Self.File.contents file.old))
+        ensures synced { OnOk result (Changes (IsSynced name.now (holds file.now))
             (entries self.old) (entries self.new)) }
         ensures others { OnErr result
             (Changes (KeepsOthers name.now) (entries self.old) (entries self.new)) }
-        ensures contents { Self.File.contents file.new ≡ Self.File.contents file.old }
         ensures claimed { is_claimed self.new }
         ensures given_up { given_up self.new ≡ given_up self.old };
 
@@ -66,14 +75,14 @@ pub trait Folder {
         ensures given_up { given_up self.new ≡ given_up self.old };
 
     /// Removes a file that was made by this name, and closes it.
-    fn give_up(&mut self, name: &str, file: Self::File) -> io::Result<()>
+    fn give_up(&mut self, name: &str, file: Self::Written) -> io::Result<()>
         requires { is_claimed self.old }
         ensures removed { OnOk result
             (Changes (IsRemoved name.now) (entries self.old) (entries self.new)) }
         ensures others { OnErr result
             (Changes (KeepsOthers name.now) (entries self.old) (entries self.new)) }
         ensures claimed { is_claimed self.new }
-        ensures given_up { given_up self.new ≡ Self.File.contents file };
+        ensures given_up { given_up self.new ≡ holds file };
 
     /// Sees that the names are stored as they stand.
     fn sync_names(&mut self) -> io::Result<()>

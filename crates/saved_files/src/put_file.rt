@@ -1,12 +1,13 @@
 //! A file that takes the place of an older one.
 
-ghost use Rattle.std.specs.Prelude.{◌≡◌, ◌++◌, IfErr, IfOk, OnErr, OnOk, codes, decimal};
+ghost use Rattle.std.specs.Prelude.{◌≡◌, ◌++◌, IfErr, IfOk, Ok, OnErr, OnOk, codes, decimal};
 ghost use Rattle.std.specs.String.{string_bytes};
 ghost use Rattle.saved_files.specs.FileFault.{IsOfNoByte};
-ghost use Rattle.saved_files.specs.Filled.{IsFilled, IsHow, LeavesFill};
-ghost use Rattle.saved_files.specs.Folder.{Changes, IsBeside, IsMade, IsSame, Puts};
+ghost use Rattle.saved_files.specs.Folder.{Changes, IsBeside, IsMade, IsSame, KeepsOthers, Puts};
+ghost use Rattle.saved_files.specs.Placed.{IsPlaced, IsUnplaced, IsWhy, LeavesWritten};
 ghost use Rattle.saved_files.specs.PutFault.{IsOfSource, LeavesPut, bytes_by};
 
+use crate::beside::Beside;
 use crate::file_fault::FileFault;
 use crate::folder::Folder;
 use crate::put_fault::PutFault;
@@ -43,14 +44,59 @@ pub fn put_in_place<F: Folder, S: Source>(
         Ok(made) => made,
         Err(why) => return Err(PutFault::Unmade(why)),
     };
-    match fill(folder, alloc, beside.as_str(), name, &mut file, source) {
+    let done = source.write_to(alloc, &mut file);
+    let it = Beside {
+        name: beside,
+        file: F::finish(file),
+    };
+    put_written(folder, it, name, done)
+}
+
+/// Has a file that was written beside its name take its name, where it was written to its end. Else
+/// it is given up.
+pub(crate) fn put_written<F: Folder, E>(
+    folder: &mut F,
+    it: Beside<F::Written>,
+    name: &str,
+    done: Result<(), E>,
+) -> Result<(), PutFault<E>>
+    requires { F.is_claimed folder.old }
+    ensures placed { OnOk result (Changes
+        (IsPlaced (string_bytes it.name) name.now (F.holds it.file))
+        (F.entries folder.old) (F.entries folder.new)) }
+    ensures left { IfErr result (λ fault. Changes
+        (LeavesWritten (string_bytes it.name) name.now (F.holds it.file) fault)
+        (F.entries folder.old) (F.entries folder.new)) }
+    ensures written { OnOk result (done ≡ Ok tt) }
+    ensures why { IfErr result (IsWhy done) }
+    ensures claimed { F.is_claimed folder.new }
+    ensures kept { OnOk result (F.given_up folder.new ≡ F.given_up folder.old) }
+    ensures given_up { OnErr result (F.given_up folder.new ≡ F.holds it.file) }
+{
+    if let Err(why) = done {
+        give_up(folder, it);
+        return Err(PutFault::Unwritten(why));
+    }
+    match place(folder, it.name.as_str(), name, &it.file) {
         Ok(()) => Ok(()),
         Err(why) => {
-            // Where even this fails it is left, and the next file gets another name.
-            let _ = folder.give_up(beside.as_str(), file);
-            Err(why)
+            give_up(folder, it);
+            Err(PutFault::Unplaced(why))
         }
     }
+}
+
+/// Removes a file that is not put in its place. Where even this fails it is left, and the next one
+/// gets another name.
+pub(crate) fn give_up<F: Folder>(folder: &mut F, it: Beside<F::Written>)
+    requires { F.is_claimed folder.old }
+    ensures kept { Changes (KeepsOthers (string_bytes it.name))
+        (F.entries folder.old) (F.entries folder.new) }
+    ensures given_up { F.given_up folder.new ≡ F.holds it.file }
+    ensures claimed { F.is_claimed folder.new }
+{
+    let Beside { name, file } = it;
+    let _ = folder.give_up(name.as_str(), file);
 }
 
 /// Makes a file beside this name, which has no bytes, and answers the name that it has until it is
@@ -108,36 +154,28 @@ fn put_number(text: &mut String, number: u32) -> Result<(), AllocError>
     write!(text, ".unfinished-{number}")
 }
 
-/// Writes a file that was made beside its name, and has it take its name.
-fn fill<F: Folder, S: Source>(
+/// Has a file that was written beside its name take its name.
+fn place<F: Folder>(
     folder: &mut F,
-    alloc: Global,
     beside: &str,
     name: &str,
-    file: &mut F::File,
-    source: &mut S,
-) -> Result<(), PutFault<S::Fault>>
+    file: &F::Written,
+) -> Result<(), FileFault>
     requires { F.is_claimed folder.old }
-    ensures filled { OnOk result (Changes
-        (IsFilled beside.now name.now (S.gives source.old (F.File.contents file.old)))
+    ensures placed { OnOk result (Changes (IsPlaced beside.now name.now (F.holds file.now))
         (F.entries folder.old) (F.entries folder.new)) }
-    ensures unfilled { IfErr result (λ fault. Changes
-        (LeavesFill beside.now name.now (S.gives source.old (F.File.contents file.old)) fault)
+    ensures unplaced { OnErr result (Changes (IsUnplaced beside.now name.now (F.holds file.now))
         (F.entries folder.old) (F.entries folder.new)) }
-    ensures how { IfErr result (IsHow (S.gives source.old) (S.leaves source.old)
-        (F.File.contents file.old) (F.File.contents file.new)) }
+    ensures no_byte { IfErr result IsOfNoByte }
     ensures claimed { F.is_claimed folder.new }
     ensures given_up { F.given_up folder.new ≡ F.given_up folder.old }
 {
-    if let Err(why) = source.write_to(alloc, file) {
-        return Err(PutFault::Unwritten(why));
-    }
     if let Err(error) = folder.sync(beside, file) {
-        return Err(PutFault::Unplaced(fault_of(error)));
+        return Err(fault_of(error));
     }
     match folder.rename(beside, name) {
         Ok(()) => Ok(()),
-        Err(error) => Err(PutFault::Unplaced(fault_of(error))),
+        Err(error) => Err(fault_of(error)),
     }
 }
 

@@ -40,6 +40,12 @@ enum Guard {
     Forced,
 }
 
+/// A file of a folder, to which no more goes out. It is open, and has the locks that it had.
+#[derive(Drop)]
+pub struct WrittenFile {
+    file: File,
+}
+
 /// A folder of the system. It is opened before files are made in it, and is locked as long as it is
 /// open where it was claimed.
 #[derive(Drop)]
@@ -203,6 +209,8 @@ impl<'a> SystemFolder<'a> {
 impl<'a> Folder for SystemFolder<'a> {
     type File = Noted<'a, File>;
 
+    type Written = WrittenFile;
+
     ghost entries = { λ _. None };
 
     ghost is_claimed = { λ _. Unit {0} };
@@ -210,6 +218,8 @@ impl<'a> Folder for SystemFolder<'a> {
     ghost is_stored = { λ _. Unit {0} };
 
     ghost given_up = { λ _. None };
+
+    ghost holds = { λ _. None };
 
     fn claim(&mut self) -> io::Result<()> {
         if self.is_locked {
@@ -231,7 +241,11 @@ impl<'a> Folder for SystemFolder<'a> {
         })
     }
 
-    fn sync(&mut self, _name: &str, file: &mut Noted<'a, File>) -> io::Result<()> {
+    fn finish(file: Noted<'a, File>) -> WrittenFile {
+        WrittenFile { file: file.file }
+    }
+
+    fn sync(&mut self, _name: &str, file: &WrittenFile) -> io::Result<()> {
         let synced = file.file.sync_all();
         self.notes.note(&synced);
         synced
@@ -243,7 +257,7 @@ impl<'a> Folder for SystemFolder<'a> {
         renamed
     }
 
-    fn give_up(&mut self, name: &str, _file: Noted<'a, File>) -> io::Result<()> {
+    fn give_up(&mut self, name: &str, _file: WrittenFile) -> io::Result<()> {
         fs::remove_file(self.files, self.place_of(name)?.as_path())
     }
 

@@ -13,7 +13,7 @@ mod patient;
 pub use claim::ClaimFault;
 pub use escaped::{Escaped, EscapedText};
 pub use files::SystemFiles;
-pub use folder::{SystemFolder, is_in_use};
+pub use folder::{SystemFolder, WrittenFile, is_in_use};
 pub use identity::FileIdentity;
 pub use kept::{Kept, copy_id, kept_at};
 pub use notes::{Noted, Notes};

@@ -21,6 +21,8 @@ mod rows;
 #[cfg(test)]
 mod runs;
 #[cfg(test)]
+mod saves;
+#[cfg(test)]
 mod scripts;
 #[cfg(test)]
 mod streams;

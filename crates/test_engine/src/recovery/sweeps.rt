@@ -205,30 +205,41 @@ enum Part {
     Device,
 }
 
-/// Sweeps each row, where one call of this part fails after the other, until none is left. Of a
-/// device it is not the first one, which stores the header: where it fails there is no engine.
+/// Sweeps a row, where one call of this part fails after the other, until none is left. Of a device
+/// it is not the first one, which stores the header: where it fails there is no engine.
+fn sweep_row(
+    rt: &(impl Abort + AllocGlobal + Threads + Sync),
+    row: Row,
+    calls: &Calls,
+    part: Part,
+    again: bool,
+) {
+    for k in 1..100 {
+        let (store, is_late, device) = match part {
+            Part::Store => (k, false, 0),
+            Part::StoreLate => (k, true, 0),
+            Part::Device => (0, false, k + 1),
+        };
+        let sweep = Sweep {
+            row,
+            calls,
+            store,
+            is_late,
+            device,
+            again,
+        };
+        if !restore_each(rt, sweep) {
+            return;
+        }
+    }
+    panic!(rt; "each of a hundred calls fails");
+}
+
 fn sweep_rows(rt: &(impl Abort + AllocGlobal + Threads + Sync), part: Part) {
     for row in &SWEPT {
         let calls = calls_of(rt, row.parts);
         for again in [false, true] {
-            for k in 1..100 {
-                let (store, is_late, device) = match part {
-                    Part::Store => (k, false, 0),
-                    Part::StoreLate => (k, true, 0),
-                    Part::Device => (0, false, k + 1),
-                };
-                let sweep = Sweep {
-                    row: *row,
-                    calls: &calls,
-                    store,
-                    is_late,
-                    device,
-                    again,
-                };
-                if !restore_each(rt, sweep) {
-                    break;
-                }
-            }
+            sweep_row(rt, *row, &calls, part, again);
         }
     }
 }

@@ -1,11 +1,20 @@
-use Rattle.std.specs.String.{string_bytes}
-use Rattle.saved_files.proofs.Puts.{left_by}
+use Rattle.saved_files.proofs.Puts.{left_by, of_source_by, put_by}
 use Rattle.saved_files.proofs.put_file.put_in_place.Goals as goal
+
+pub returns-clause-put : goal.returns-clause-put
+returns-clause-put g c =
+    put_by c.args.name.now _ (g.S.Source.gives c.args.source.now) _ _ _ _ _ _ c.write_to-done.result
+    c.put_written.result c.in-Ok.ensures.beside c.write_to-done.ensures.ok c.finish.ensures c.in-Ok.ensures.made
+    c.put_written.ensures.placed c.put_written.ensures.written
 
 pub returns-clause-left : goal.returns-clause-left
 returns-clause-left g c =
-    left_by c.args.name.now (string_bytes c.in-Ok.made.0) c.as_str.result.now c.as_str-in-Err-fill.result.now
-    (g.S.Source.gives c.args.source.now) (g.S.Source.leaves c.args.source.now) _ _ _ _ c.in-Err-fill.why _ _ _ _
-    c.give_up.result c.as_str.ensures.value c.as_str-in-Err-fill.ensures.value c.in-Ok.ensures.beside
-    c.in-Err-fill.ensures.how c.give_up.ensures.given_up c.in-Ok.ensures.made c.in-Err-fill.ensures.unfilled
-    c.give_up.ensures.removed c.give_up.ensures.others
+    left_by c.args.name.now _ (g.S.Source.gives c.args.source.now) (g.S.Source.leaves c.args.source.now) _ _ _
+    (g.F.Folder.given_up c.args.folder.now) _ _ _ _ c.write_to-done.result c.put_written.result
+    c.in-Ok.ensures.beside c.write_to-done.ensures.ok c.write_to-done.ensures.err c.finish.ensures
+    c.in-Ok.ensures.made c.put_written.ensures.given_up c.put_written.ensures.why c.put_written.ensures.left
+
+pub returns-clause-of_source : goal.returns-clause-of_source
+returns-clause-of_source g c =
+    of_source_by (g.S.Source.leaves c.args.source.now) _ _ c.write_to-done.result c.put_written.result
+    c.write_to-done.ensures.err c.put_written.ensures.why

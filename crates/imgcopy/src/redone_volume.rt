@@ -1,0 +1,26 @@
+//! The volume of a log, as what a file is made of.
+
+use saved_files::Source;
+use std::alloc::Global;
+use std::io::{Read, Write};
+use volume_redo::{Fault, redo_stream};
+
+/// The volume that `redo_stream` makes of the log that a reader gives.
+#[derive(Drop)]
+pub struct RedoneVolume<R: Read + Drop> {
+    pub log: R,
+}
+
+impl<R: Read + Drop> Source for RedoneVolume<R> {
+    ghost use Rattle.volume_redo.specs.Stream.{Leaves, WritesVolume};
+
+    type Fault = Fault;
+
+    ghost gives = { λ it. WritesVolume (R.remaining it.log) };
+
+    ghost leaves = { λ it fault old new. Leaves (R.remaining it.log) old new fault };
+
+    fn write_to<W: Write>(&mut self, alloc: Global, writer: &mut W) -> Result<(), Fault> {
+        redo_stream(alloc, &mut self.log, writer)
+    }
+}
