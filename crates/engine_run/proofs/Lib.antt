@@ -1,3 +1,4 @@
 pub mod Peeks
+pub mod Replied
 pub mod Told
 pub mod Works

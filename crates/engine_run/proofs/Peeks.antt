@@ -12,7 +12,7 @@ use Rattle.engine_calls.specs.declared.refusal.Refusal.TheVariants.{PageOut, Slo
 use Rattle.engine_rules.specs.EngineState.{EngineState, log_of, volume_pages}
 use Rattle.engine_rules.specs.Refusal.{refusal}
 use Rattle.engine_rules.specs.Step.{Step}
-use Rattle.engine_run.specs.Peek.{IsReadOf}
+use Rattle.engine_run.specs.Replies.{Replies}
 
 -- a call that is refused replies so
 replies : (s : EngineState) (event : Event) (why : Refusal) (reply : Result Answer Refusal)
@@ -36,7 +36,7 @@ slot_out s page slot past = by_page (nat_le (volume_pages s) page) refl
     by_page true is = inl (rw is refl)
     by_page false is = inr (rw (is, le-leb SLOTS slot past) refl)
 
-pub peek_page : (page slot : ℕ) (reply : Result Answer Refusal) → IsReadOf page slot reply
+pub peek_page : (page slot : ℕ) (reply : Result Answer Refusal) → Replies (event.Read page slot) reply
     → MAX_PAGES ≤ page → reply ≡ Err PageOut
 peek_page page slot reply read past =
     let s = read.before in
@@ -44,7 +44,7 @@ peek_page page slot reply read past =
     let out : volume_pages s ≤ page = omega (arith, few.most, past) in
     replies s (event.Read page slot) PageOut reply read.after (page_out s page slot out) read.step
 
-pub peek_slot : (page slot : ℕ) (reply : Result Answer Refusal) → IsReadOf page slot reply
+pub peek_slot : (page slot : ℕ) (reply : Result Answer Refusal) → Replies (event.Read page slot) reply
     → SLOTS ≤ slot → (reply ≡ Err PageOut) ⊎ (reply ≡ Err SlotOut)
 peek_slot page slot reply read past =
     let s = read.before in

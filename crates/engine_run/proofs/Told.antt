@@ -1,9 +1,9 @@
 -- What a settled run tells.
-use Rattle.std.proofs.Common.{ℕ, ◌≡◌, ◌≤◌, ◌++◌, List, [], take, arith, refl, subst, sym, inl, inr}
-use Rattle.std.proofs.Common.{IsSomeAnd}
+use Rattle.std.proofs.Common.{ℕ, ◌≡◌, ◌+◌, ◌<◌, ◌≤◌, ◌++◌, List, [], ◌∷◌, length, take, arith, refl, subst, sym}
+use Rattle.std.proofs.Common.{◌-◌, ap, inl, inr, slice_index_or, ◌∙◌, IsSomeAnd}
 use Rattle.std.specs.List.{All, filter_map}
-use Rattle.std.proofs.lemmas.List.{get_or_append_left, length-append}
-use Rattle.std.proofs.lemmas.List.Elements.{All-weaker}
+use Rattle.std.proofs.lemmas.List.{get_or-append_right, get_or_append_left, length-append}
+use Rattle.std.proofs.lemmas.List.Elements.{All-cons, All-nil, All-weaker, filter_map-append}
 use Rattle.log_records.specs.Log.{Log, lsn_of}
 use Rattle.image_copies.specs.Copy.{CopyView}
 use Rattle.image_copies.specs.declared.copy_id.CopyKind.TheVariants.{Full}
@@ -19,13 +19,17 @@ use Rattle.settlement.specs.Sessions.{AreApart, IsCommitIn, all_receipts}
 use Rattle.settlement.proofs.Public.{commits_kept, own_write}
 use Rattle.settlement.proofs.Public.{times-append}
 use Rattle.settlement.proofs.Public.{times_all}
+use Rattle.engine_rules.specs.EngineState.{EngineState}
+use Rattle.engine_run.specs.Beginning.{IsBeginning}
+use Rattle.engine_run.specs.declared.beginning.Beginning.{Beginning}
 use Rattle.engine_run.specs.declared.work.Work.{Work}
 use Rattle.engine_run.specs.declared.work.Work.TheVariants.{Copied, Pointed}
-use Rattle.engine_run.specs.Laws.{IsRestoredBy, ReadsItsOwn}
-use Rattle.engine_run.specs.Settled.{Evidence, IsSettled, IsWrongAt, WorkStands, begin_of, evidence_in, lsns_of}
+use Rattle.engine_run.specs.Laws.{IsNewTo, IsRestoredBy, ReadsItsOwn}
+use Rattle.engine_run.specs.Settled.{Evidence, IsSettled, IsWrongAt, WorkStands, begin_of, copies_of, copy_of}
+use Rattle.engine_run.specs.Settled.{evidence_in, lsns_of}
 
 -- the records of receipts have LSNs that differ
-pub records_apart : (began : ℕ) (e : Evidence) (sessions : List (List Receipt)) (works : List Work)
+pub records_apart : (began : Beginning) (e : Evidence) (sessions : List (List Receipt)) (works : List Work)
     → IsSettled began e sessions works → AreApart (written (all_receipts sessions))
 records_apart began e sessions works settled x =
     let both = times-append x (written (all_receipts sessions)) (filter_map begin_of works) in
@@ -37,7 +41,15 @@ pub of_first : (P : ℕ → Type 0) (xs ys : List ℕ) → All P (xs ++ ys) → 
 of_first P xs ys all k d lt =
     subst P (get_or_append_left xs ys d k lt) (all k d (omega (arith, lt, length-append xs ys)))
 
-pub commits_told : (began : ℕ) (left : RetiredView) (sessions : List (List Receipt)) (works : List Work)
+-- and of those that come last
+of_last : (P : ℕ → Type 0) (xs ys : List ℕ) → All P (xs ++ ys) → All P ys
+of_last P xs ys all k d lt =
+    let past : slice_index_or (xs ++ ys) (length xs + k) d ≡ slice_index_or ys k d =
+    get_or-append_right xs ys (length xs) (length xs + k) d refl (omega arith)
+    ∙ ap (λ (i : ℕ). slice_index_or ys i d) (omega arith) in
+    subst P past (all (length xs + k) d (omega (arith, lt, length-append xs ys)))
+
+pub commits_told : (began : Beginning) (left : RetiredView) (sessions : List (List Receipt)) (works : List Work)
     (kept : Log) → IsSettled began (evidence_in left) sessions works
     → IsKeptOf left.log left.forced_end kept → All (All (IsCommitIn kept.records)) sessions
 commits_told began left sessions works kept settled is_kept =
@@ -48,7 +60,7 @@ commits_told began left sessions works kept settled is_kept =
     settled.receipts in
     subst (λ (lg : Log). All (All (IsCommitIn lg.records)) sessions) (sym is_kept.made) of_log
 
-pub reads_told : (began : ℕ) (left : RetiredView) (sessions : List (List Receipt)) (works : List Work)
+pub reads_told : (began : Beginning) (left : RetiredView) (sessions : List (List Receipt)) (works : List Work)
     → IsRetired left → IsSettled began (evidence_in left) sessions works
     → All (ReadsItsOwn left.log.records) sessions
 reads_told began left sessions works retired settled =
@@ -75,7 +87,7 @@ restored_by left kept restores (Copied id kind taken) stands =
     let found = found_complete (state_of left.copies id) _ stands in
     (found.0, found.1, restores id found.0 found.1)
 
-pub copies_told : (began : ℕ) (left : RetiredView) (sessions : List (List Receipt)) (works : List Work)
+pub copies_told : (began : Beginning) (left : RetiredView) (sessions : List (List Receipt)) (works : List Work)
     (kept : Log) → IsSettled began (evidence_in left) sessions works
     → ((id : ℕ) (copy : CopyView) → state_of left.copies id ≡ complete copy
     → Restores left.copies copy kept.records)
@@ -85,12 +97,35 @@ copies_told began left sessions works kept settled restores =
     (IsRestoredBy left.copies kept.records) (restored_by left kept restores) works
     settled.work
 
-pub wrong_told : (began : ℕ) (e : Evidence) (sessions : List (List Receipt)) (works : List Work) (at : ℕ)
+-- what holds of each id that was answered holds of the copies
+of_copies : (P : ℕ → Type 0) (Q : Work → Type 0) → ((w : Work) → All P (filter_map copy_of (w ∷ [])) → Q w)
+    → (works : List Work) → All P (copies_of works) → All Q works
+of_copies P Q each [] all = All-nil Q
+of_copies P Q each (w ∷ works) all =
+    let split : All P (filter_map copy_of (w ∷ []) ++ copies_of works) =
+    subst (All P) (filter_map-append copy_of (w ∷ []) works) all in
+    All-cons Q w works (each w (of_first P (filter_map copy_of (w ∷ [])) (copies_of works) split))
+    (of_copies P Q each works (of_last P (filter_map copy_of (w ∷ [])) (copies_of works) split))
+
+new_one : (s : EngineState) (began : Beginning) → IsBeginning s began → (w : Work)
+    → All (λ id. began.last_copy < id) (filter_map copy_of (w ∷ [])) → IsNewTo s.copies w
+new_one s began was (Pointed point) all = tt
+new_one s began was (Copied id kind taken) all = was.copies.none_behind id (all 0 id (omega arith))
+
+pub new_told : (s : EngineState) (began : Beginning) (e : Evidence) (sessions : List (List Receipt))
+    (works : List Work) → IsBeginning s began → IsSettled began e sessions works → All (IsNewTo s.copies) works
+new_told s began e sessions works was settled =
+    of_copies (λ id. began.last_copy < id) (IsNewTo s.copies) (new_one s began was) works settled.new_copies
+
+pub wrong_told : (began : Beginning) (e : Evidence) (sessions : List (List Receipt)) (works : List Work) (at : ℕ)
     → IsWrongAt began e sessions works at → IsSettled began e sessions works → ⊥
 wrong_told began e sessions works at (inl (differ, none)) settled = differ settled.counted
-wrong_told began e sessions works at (inr (added, inl old)) settled =
-    let low = times_all (λ lsn. lsn_of began ≤ lsn) at (lsns_of sessions works) settled.newer old.there in
+wrong_told began e sessions works at (inr (added, inl (inl old))) settled =
+    let low = times_all (λ lsn. lsn_of began.records ≤ lsn) at (lsns_of sessions works) settled.newer old.there in
     absurd (omega (arith, low, old.below))
+wrong_told began e sessions works at (inr (added, inl (inr (none, old)))) settled =
+    let low = times_all (λ id. began.last_copy < id) old.id (copies_of works) settled.new_copies old.there in
+    absurd (omega (arith, low, old.given))
 wrong_told began e sessions works at (inr (added, inr (inl (inl bad)))) settled =
     let some : Receipt = Read 0 0 0 0 in
     bad.bad some

@@ -7,6 +7,7 @@ use Rattle.std.proofs.lemmas.List.{get_or_default}
 use Rattle.std.proofs.lemmas.List.{take-append-drop, take_more}
 use Rattle.std.proofs.lemmas.List.Elements.{All-append, All-cons, All-nil, filter_map-append}
 use Rattle.fuzzy_ckpt.specs.declared.point.Point.{Point}
+use Rattle.image_copies.specs.declared.copy_id.CopyKind.{CopyKind}
 use Rattle.settlement.specs.Marks.{AreMarked}
 use Rattle.settlement.specs.Receipt.{times}
 use Rattle.settlement.specs.Sessions.{AreApart}
@@ -103,31 +104,36 @@ wrong_work e marks given lsns works i at (Copied id kind taken) within is m g (p
       ),
     ))
 
--- ---- the LSNs of Points, none of which is below a bound
+-- ---- what is named, the LSNs of Points and the ids of copies, none of which is below a bound
 
--- that of a Point is among those of all
-pub begin_there : (works : List Work) (i at : ℕ) (w : Work) → i < length works → w ≡ slice_index_or works i w
-    → filter_map begin_of (w ∷ []) ≡ at ∷ [] → 0 < times at (filter_map begin_of works)
-begin_there works i at w within is one =
-    let before = filter_map begin_of (take i works) in
-    let both : times at (filter_map begin_of (take (i + 1) works)) ≡ times at before + 1 =
-    ap (times at) (named_more begin_of works i w within)
-    ∙ ap (λ (v : Work). times at (before ++ filter_map begin_of (v ∷ []))) (sym is)
-    ∙ ap (λ (xs : List ℕ). times at (before ++ xs)) one
-    ∙ times-append at before (at ∷ [])
-    ∙ ap (λ (n : ℕ). times at before + n) (times_one at) in
-    let part = times_named begin_of at (i + 1) works in
+-- the name of one of them is among those of all
+pub named_there : (name : Work → Option ℕ) (works : List Work) (i x : ℕ) (w : Work) → i < length works
+    → w ≡ slice_index_or works i w → filter_map name (w ∷ []) ≡ x ∷ [] → 0 < times x (filter_map name works)
+named_there name works i x w within is one =
+    let before = filter_map name (take i works) in
+    let both : times x (filter_map name (take (i + 1) works)) ≡ times x before + 1 =
+    ap (times x) (named_more name works i w within)
+    ∙ ap (λ (v : Work). times x (before ++ filter_map name (v ∷ []))) (sym is)
+    ∙ ap (λ (xs : List ℕ). times x (before ++ xs)) one
+    ∙ times-append x before (x ∷ [])
+    ∙ ap (λ (n : ℕ). times x before + n) (times_one x) in
+    let part = times_named name x (i + 1) works in
     omega arith
 
-pub newer_one : (P : ℕ → Type 0) (w : Work) → ((point : Point) → w ≡ Pointed point → P point.begin)
+pub newer_point : (P : ℕ → Type 0) (w : Work) → ((point : Point) → w ≡ Pointed point → P point.begin)
     → All P (filter_map begin_of (w ∷ []))
-newer_one P (Pointed point) each = All-cons P point.begin [] (each point refl) (All-nil P)
-newer_one P (Copied id kind taken) each = All-nil P
+newer_point P (Pointed point) each = All-cons P point.begin [] (each point refl) (All-nil P)
+newer_point P (Copied id kind taken) each = All-nil P
 
-pub newer_more : (P : ℕ → Type 0) (works : List Work) (i : ℕ) (w : Work) → i < length works
-    → w ≡ slice_index_or works i w → All P (filter_map begin_of (take i works))
-    → All P (filter_map begin_of (w ∷ [])) → All P (filter_map begin_of (take (i + 1) works))
-newer_more P works i w within is so_far one =
-    subst (All P) (sym (named_more begin_of works i w within))
-    (All-append P (filter_map begin_of (take i works)) (filter_map begin_of (slice_index_or works i w ∷ [])) so_far
-    (subst (λ (v : Work). All P (filter_map begin_of (v ∷ []))) is one))
+pub newer_copy : (P : ℕ → Type 0) (w : Work) → ((id : ℕ) (kind : CopyKind) (taken : ℕ) → w ≡ Copied id kind taken → P id)
+    → All P (filter_map copy_of (w ∷ []))
+newer_copy P (Pointed point) each = All-nil P
+newer_copy P (Copied id kind taken) each = All-cons P id [] (each id kind taken refl) (All-nil P)
+
+pub newer_more : (name : Work → Option ℕ) (P : ℕ → Type 0) (works : List Work) (i : ℕ) (w : Work) → i < length works
+    → w ≡ slice_index_or works i w → All P (filter_map name (take i works))
+    → All P (filter_map name (w ∷ [])) → All P (filter_map name (take (i + 1) works))
+newer_more name P works i w within is so_far one =
+    subst (All P) (sym (named_more name works i w within))
+    (All-append P (filter_map name (take i works)) (filter_map name (slice_index_or works i w ∷ [])) so_far
+    (subst (λ (v : Work). All P (filter_map name (v ∷ []))) is one))

@@ -2,7 +2,7 @@
 use Rattle.std.specs.Prelude.{ℕ, ◌≡◌, ◌<◌, true, false, List, length, slice_index_or}
 use Rattle.log_records.specs.declared.record.Record.{Record}
 use Rattle.image_copies.specs.Copy.{CopyView}
-use Rattle.copy_vault.specs.Vault.{CopyState, complete, state_of}
+use Rattle.copy_vault.specs.Vault.{CopyState, complete, dropped, state_of}
 use Rattle.copy_coverage.specs.Copied.{Restores}
 use Rattle.settlement.specs.declared.receipt.Receipt.{Receipt}
 use Rattle.settlement.specs.Receipt.{HasAt, IsRecordOf, below, is_read, position}
@@ -21,3 +21,8 @@ abbrev pub IsRestoredBy : List CopyState → List Record → Work → Type 0
 IsRestoredBy copies kept (Copied id kind taken) =
     (copy : CopyView) × (state_of copies id ≡ complete copy) × Restores copies copy kept
 IsRestoredBy copies kept other = Unit {0}
+
+-- a copy that was answered is none of these: the engine that has them has no copy of its id
+abbrev pub IsNewTo : List CopyState → Work → Type 0
+IsNewTo before (Copied id kind taken) = state_of before id ≡ dropped
+IsNewTo before other = Unit {0}

@@ -1,8 +1,9 @@
+pub mod Beginning
 pub mod CopyWrite
 pub mod Given
 pub mod Held
 pub mod Laws
-pub mod Peek
+pub mod Replies
 pub mod Settled
 pub mod Shared
 pub mod Undoing

@@ -17,6 +17,7 @@ use Rattle.settlement.specs.Receipt.{times, written}
 use Rattle.settlement.specs.Session.{AllStand}
 use Rattle.settlement.specs.Sessions.{AreApart, AreWrongAt, all_receipts}
 use Rattle.engine_rules.specs.EngineState.{EngineState, log_of}
+use Rattle.engine_run.specs.declared.beginning.Beginning.{Beginning}
 use Rattle.engine_run.specs.declared.fault.SettleFault.{SettleFault}
 use Rattle.engine_run.specs.declared.fault.SettleFault.TheVariants.{OutOfMemory, Unsettled}
 use Rattle.engine_run.specs.declared.work.Work.{Work}
@@ -73,20 +74,25 @@ copies_of works = filter_map copy_of works
 -- the changes of the first records, which were there before, and those of the sessions are as many
 -- as the log has
 abbrev pub AddUp : ℕ → List (List Receipt) → List Record → Type 0
-AddUp began sessions rs =
-    updates_in (take began rs) + sum_by changes_in sessions ≡ updates_in rs
+AddUp before sessions rs =
+    updates_in (take before rs) + sum_by changes_in sessions ≡ updates_in rs
 
 -- none of the records that were answered was there before
 abbrev pub AreNewer : ℕ → List (List Receipt) → List Work → Type 0
-AreNewer began sessions works = All (λ lsn. lsn_of began ≤ lsn) (lsns_of sessions works)
+AreNewer before sessions works = All (λ lsn. lsn_of before ≤ lsn) (lsns_of sessions works)
 
--- the log had so many records when the sessions began. The shares of the sessions add up to the
--- changes that it has got since; each receipt stands, and so does each Point and copy; none of
--- their records is older; and nothing was answered twice
-pub record IsSettled (began : ℕ) (e : Evidence) (sessions : List (List Receipt))
+-- none of the copies that were answered was there before
+abbrev pub AreNewCopies : ℕ → List Work → Type 0
+AreNewCopies last works = All (λ id. last < id) (copies_of works)
+
+-- this was there when the sessions began. The shares of the sessions add up to the changes that the
+-- log has got since; each receipt stands, and so does each Point and copy; none of their records
+-- and none of the copies is older; and nothing was answered twice
+pub record IsSettled (began : Beginning) (e : Evidence) (sessions : List (List Receipt))
     (works : List Work) : Type 0 where
-  pub counted : AddUp began sessions e.log.records
-  pub newer : AreNewer began sessions works
+  pub counted : AddUp began.records sessions e.log.records
+  pub newer : AreNewer began.records sessions works
+  pub new_copies : AreNewCopies began.last_copy works
   pub receipts : All (AllStand e.log.records e.forced_end) sessions
   pub work : All (WorkStands e) works
   pub lsns : AreApart (lsns_of sessions works)
@@ -119,23 +125,35 @@ IsWorkBad e marks given (Copied id kind taken) at =
     ⊎ ((ids : List ℕ) → AreGiven given ids → 0 < times id ids))
 
 -- a receipt or Point has this LSN, of a record that was there before
-pub record IsOlderAt (began : ℕ) (sessions : List (List Receipt)) (works : List Work) (at : ℕ)
+pub record HasOlderRecord (before : ℕ) (sessions : List (List Receipt)) (works : List Work) (at : ℕ)
     : Type 0 where
-  pub below : at < lsn_of began
+  pub below : at < lsn_of before
   pub there : 0 < times at (lsns_of sessions works)
+
+-- a copy was answered that may have been there before
+pub record HasOlderCopy (last : ℕ) (works : List Work) : Type 0 where
+  pub id : ℕ
+  pub given : id ≤ last
+  pub there : 0 < times id (copies_of works)
+
+-- a receipt or Point has this LSN, of an older record; or, at 0, a copy is older
+abbrev pub IsOlderAt : Beginning → List (List Receipt) → List Work → ℕ → Type 0
+IsOlderAt began sessions works at =
+    HasOlderRecord began.records sessions works at
+    ⊎ ((at ≡ 0) × HasOlderCopy began.last_copy works)
 
 -- what an LSN names where a run is not settled. The shares are looked at first: where they do not
 -- add up, it is 0. Else it is that of a receipt or Point whose record is older than its sessions,
--- or that does not stand, or of two that have it; or it is 0, and a copy does not stand or comes
--- twice
-abbrev pub IsWrongAt : ℕ → Evidence → List (List Receipt) → List Work → ℕ → Type 0
+-- or that does not stand, or of two that have it; or it is 0, and a copy is older, does not stand or
+-- comes twice
+abbrev pub IsWrongAt : Beginning → Evidence → List (List Receipt) → List Work → ℕ → Type 0
 IsWrongAt began e sessions works at =
-    ((¬ AddUp began sessions e.log.records) × (at ≡ 0))
-    ⊎ (AddUp began sessions e.log.records × (IsOlderAt began sessions works at
+    ((¬ AddUp began.records sessions e.log.records) × (at ≡ 0))
+    ⊎ (AddUp began.records sessions e.log.records × (IsOlderAt began sessions works at
     ⊎ AreWrongAt e.log.records e.forced_end sessions at
     ⊎ IsWorkWrongAt e (written (all_receipts sessions)) works at))
 
 -- what a refusal tells: memory is asked for once the shares were compared
-abbrev pub IsFaultOf : ℕ → Evidence → List (List Receipt) → List Work → SettleFault → Type 0
-IsFaultOf began e sessions works OutOfMemory = AddUp began sessions e.log.records
+abbrev pub IsFaultOf : Beginning → Evidence → List (List Receipt) → List Work → SettleFault → Type 0
+IsFaultOf began e sessions works OutOfMemory = AddUp began.records sessions e.log.records
 IsFaultOf began e sessions works (Unsettled at) = IsWrongAt began e sessions works at

@@ -1,33 +1,42 @@
-//! Whether sessions and checkpoints were answered records that were there before them.
+//! Whether sessions, checkpoints and copies were answered what was there before them.
 
-ghost use Rattle.std.specs.Prelude.{◌≡◌, ◌≤◌, ◌<◌, IfErr, OnOk};
+ghost use Rattle.std.specs.Prelude.{ℕ, ◌≡◌, ◌≤◌, ◌<◌, true, false, IfErr, OnOk};
 ghost use Rattle.std.specs.List.{All, filter_map};
 ghost use Rattle.log_records.specs.Log.{lsn_of};
 ghost use Rattle.settlement.specs.Receipt.{times, written};
 ghost use Rattle.settlement.specs.Sessions.{all_receipts};
-ghost use Rattle.engine_run.specs.Settled.{AreNewer, IsOlderAt, begin_of};
+ghost use Rattle.engine_run.specs.Settled.{AreNewCopies, AreNewer, HasOlderCopy, IsOlderAt};
+ghost use Rattle.engine_run.specs.Settled.{begin_of, copies_of};
 
+use crate::beginning::Beginning;
 use crate::session::Session;
 use crate::work::Work;
 use page_core::{LSN_STEP, Lsn};
 use settlement::check_age;
 use std::sync::ledger::Ledger;
 
-/// Checks that each receipt and each Point is of a record behind the log's first ones. An `Err` has
-/// the LSN of one that is not.
+/// Checks that each receipt and each Point is of a record behind the log's first ones, and that no
+/// copy was there before. An `Err` has the LSN of a record that is older, or 0 where a copy is.
 pub(crate) fn check_ages<G: Ledger>(
-    began: u32,
+    began: Beginning,
     sessions: &[Session<G>],
     works: &[Work],
 ) -> Result<(), Lsn>
-    ensures ok { OnOk result (AreNewer began sessions.now works.now) }
+    ensures ok { OnOk result (AreNewer began.records sessions.now works.now) }
+    ensures copies { OnOk result (AreNewCopies began.last_copy works.now) }
     ensures err { IfErr result (IsOlderAt began sessions.now works.now) }
 {
-    let bound = Lsn(LSN_STEP * (u64::from(began) + 1));
+    let bound = Lsn(LSN_STEP * (u64::from(began.records) + 1));
     if let Err(at) = check_receipts(bound, sessions) {
         return Err(at);
     }
-    check_points(bound, works)
+    if let Err(at) = check_points(bound, works) {
+        return Err(at);
+    }
+    if !are_new_copies(began.last_copy, works) {
+        return Err(Lsn(0));
+    }
+    Ok(())
 }
 
 /// The same of receipts alone.
@@ -58,4 +67,19 @@ fn check_points(bound: Lsn, works: &[Work]) -> Result<(), Lsn>
         }
     }
     Ok(())
+}
+
+/// Whether each copy has an id behind this one.
+fn are_new_copies(last: u32, works: &[Work]) -> bool
+    ensures yes { result ≡ true → AreNewCopies last works.now }
+    ensures no { result ≡ false → HasOlderCopy last works.now }
+{
+    for work in works {
+        if let Work::Copied { id, .. } = *work {
+            if id.0 <= last {
+                return false;
+            }
+        }
+    }
+    true
 }

@@ -10,7 +10,7 @@ pub enum SettleFault {
     OutOfMemory,
     /// What was answered does not stand in the log. The number is the position of a receipt or the
     /// begin LSN of a Point that does not stand, or that another one has too. It is 0 where the
-    /// shares differ from the log, or a copy does not stand or comes twice.
+    /// shares differ from the log, or a copy does not stand, comes twice, or was there before.
     Unsettled(Lsn),
 }
 

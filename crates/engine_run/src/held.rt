@@ -8,7 +8,7 @@ ghost use Rattle.engine_rules.specs.Step.{Step, reply_of, step_back_answer, undo
 ghost use Rattle.engine_rules.specs.Uses.{AsksStore, ForcesDevice};
 ghost use Rattle.engine_calls.specs.declared.event.Answer.TheVariants as answer;
 ghost use Rattle.engine_calls.specs.declared.event.Event.TheVariants as event;
-ghost use Rattle.engine_run.specs.Peek.{IsReadOf};
+ghost use Rattle.engine_run.specs.Replies.{ForcesCommit, MadeOn, RepliesBy};
 
 use aries_core::{Engine, Refusal, SteppedBack, Undone};
 use log_store::LogDevice;
@@ -58,8 +58,13 @@ impl<S: PageStore, D: LogDevice, G: Ledger> Held<S, D, G> {
             (reply_of (λ a. answer.Began a.0 a.1) result) self.new.engine.state }
         ensures store { self.new.engine.store ≡ self.old.engine.store }
         ensures device { self.new.engine.device ≡ self.old.engine.device }
+        ensures replies { RepliesBy (MadeOn S.PageStore D.LogDevice) event.Begin
+            (reply_of (λ a. answer.Began a.0 a.1) result) }
     {
-        self.engine.begin()
+        let _ = self.engine.log_end();
+        let result = self.engine.begin();
+        let _ = self.engine.log();
+        result
     }
 
     /// Puts a number into a slot, as `Engine::set` does, and counts the change in the share of the
@@ -82,10 +87,16 @@ impl<S: PageStore, D: LogDevice, G: Ledger> Held<S, D, G> {
         ensures counted { OnOk result (share.new.amount ≡ share.old.amount + 1) }
         ensures uncounted { OnErr result (share.new.amount ≡ share.old.amount) }
         ensures same_parts { share.new.parts ≡ share.old.parts }
+        ensures replies { RepliesBy (MadeOn S.PageStore D.LogDevice) (event.Set txn page slot number)
+            (reply_of answer.Logged result) }
     {
-        let lsn = self.engine.set(txn, page, slot, number)?;
-        self.book.add(share, 1);
-        Ok(lsn)
+        let _ = self.engine.log_end();
+        let result = self.engine.set(txn, page, slot, number);
+        let _ = self.engine.log();
+        if result.is_ok() {
+            self.book.add(share, 1);
+        }
+        result
     }
 
     /// Adds to the number in a slot, as `Engine::add` does, and counts the change as `set` does.
@@ -107,10 +118,16 @@ impl<S: PageStore, D: LogDevice, G: Ledger> Held<S, D, G> {
         ensures counted { OnOk result (share.new.amount ≡ share.old.amount + 1) }
         ensures uncounted { OnErr result (share.new.amount ≡ share.old.amount) }
         ensures same_parts { share.new.parts ≡ share.old.parts }
+        ensures replies { RepliesBy (MadeOn S.PageStore D.LogDevice) (event.Add txn page slot amount)
+            (reply_of answer.Logged result) }
     {
-        let lsn = self.engine.add(txn, page, slot, amount)?;
-        self.book.add(share, 1);
-        Ok(lsn)
+        let _ = self.engine.log_end();
+        let result = self.engine.add(txn, page, slot, amount);
+        let _ = self.engine.log();
+        if result.is_ok() {
+            self.book.add(share, 1);
+        }
+        result
     }
 
     /// The log's end, and the number in a slot at that moment, as `Engine::read` tells it.
@@ -123,23 +140,17 @@ impl<S: PageStore, D: LogDevice, G: Ledger> Held<S, D, G> {
             (asked self.old.engine.state (event.Read page slot)) self.old.engine result
             self.new.engine }
         ensures device { self.new.engine.device ≡ self.old.engine.device }
+        ensures replies { RepliesBy (MadeOn S.PageStore D.LogDevice) (event.Read page slot)
+            (reply_of (λ a. answer.Number a.1) result) }
     {
-        let number = self.engine.read(page, slot)?;
-        Ok((self.engine.log_end(), number))
-    }
-
-    /// The number in a slot, as `Engine::read` tells it, with what can be said of it once the lock
-    /// is free: that a fit engine answers so.
-    pub(crate) fn peek(&mut self, page: PageNo, slot: SlotNo) -> Result<u64, Refusal>
-        ensures read { IsReadOf page slot (reply_of answer.Number result) }
-        ensures step { Step self.old.engine.state (event.Read page slot)
-            (reply_of answer.Number result) self.new.engine.state }
-        ensures log { self.new.engine.state.log ≡ self.old.engine.state.log }
-        ensures device { self.new.engine.device ≡ self.old.engine.device }
-    {
-        // What lies under a free lock is fit.
-        let _end = self.engine.log_end();
-        self.engine.read(page, slot)
+        let end = self.engine.log_end();
+        let result = self.engine.read(page, slot);
+        let _ = self.engine.log();
+        let number = match result {
+            Ok(number) => number,
+            Err(why) => return Err(why),
+        };
+        Ok((end, number))
     }
 
     /// Commits a transaction, as `Engine::commit` does.
@@ -149,8 +160,14 @@ impl<S: PageStore, D: LogDevice, G: Ledger> Held<S, D, G> {
         ensures store { self.new.engine.store ≡ self.old.engine.store }
         ensures device { ForcesDevice D.called D.synced D.failures D.fails_from self.old.engine
             result self.new.engine }
+        ensures replies { RepliesBy (MadeOn S.PageStore D.LogDevice) (event.Commit txn)
+            (reply_of answer.Logged result) }
+        ensures forced { IfOk result (ForcesCommit (MadeOn S.PageStore D.LogDevice) txn) }
     {
-        self.engine.commit(txn)
+        let _ = self.engine.log_end();
+        let result = self.engine.commit(txn);
+        let _ = self.engine.log();
+        result
     }
 
     /// Begins to take the changes of a transaction back, as `Engine::abort` does.
@@ -159,8 +176,13 @@ impl<S: PageStore, D: LogDevice, G: Ledger> Held<S, D, G> {
             self.new.engine.state }
         ensures store { self.new.engine.store ≡ self.old.engine.store }
         ensures device { self.new.engine.device ≡ self.old.engine.device }
+        ensures replies { RepliesBy (MadeOn S.PageStore D.LogDevice) (event.Abort txn)
+            (reply_of answer.Logged result) }
     {
-        self.engine.abort(txn)
+        let _ = self.engine.log_end();
+        let result = self.engine.abort(txn);
+        let _ = self.engine.log();
+        result
     }
 
     /// Takes one change of a transaction back, or ends it, as `Engine::undo_step` does.
@@ -171,8 +193,13 @@ impl<S: PageStore, D: LogDevice, G: Ledger> Held<S, D, G> {
             (asked self.old.engine.state (event.UndoStep txn)) self.old.engine result
             self.new.engine }
         ensures device { self.new.engine.device ≡ self.old.engine.device }
+        ensures replies { RepliesBy (MadeOn S.PageStore D.LogDevice) (event.UndoStep txn)
+            (reply_of undo_answer result) }
     {
-        self.engine.undo_step(txn)
+        let _ = self.engine.log_end();
+        let result = self.engine.undo_step(txn);
+        let _ = self.engine.log();
+        result
     }
 
     /// Names the place to which a transaction may go back from here on, as `Engine::savepoint`
@@ -180,8 +207,13 @@ impl<S: PageStore, D: LogDevice, G: Ledger> Held<S, D, G> {
     pub fn savepoint(&self, txn: TxnNo) -> Result<Lsn, Refusal>
         ensures step { Step self.now.engine.state (event.Savepoint txn)
             (reply_of answer.Saved result) self.now.engine.state }
+        ensures replies { RepliesBy (MadeOn S.PageStore D.LogDevice) (event.Savepoint txn)
+            (reply_of answer.Saved result) }
     {
-        self.engine.savepoint(txn)
+        let _ = self.engine.log_end();
+        let result = self.engine.savepoint(txn);
+        let _ = self.engine.log();
+        result
     }
 
     /// Takes one change of a transaction back that was made behind a savepoint, as
@@ -193,7 +225,12 @@ impl<S: PageStore, D: LogDevice, G: Ledger> Held<S, D, G> {
             (asked self.old.engine.state (event.UndoTo txn savepoint)) self.old.engine result
             self.new.engine }
         ensures device { self.new.engine.device ≡ self.old.engine.device }
+        ensures replies { RepliesBy (MadeOn S.PageStore D.LogDevice) (event.UndoTo txn savepoint)
+            (reply_of step_back_answer result) }
     {
-        self.engine.undo_to(txn, savepoint)
+        let _ = self.engine.log_end();
+        let result = self.engine.undo_to(txn, savepoint);
+        let _ = self.engine.log();
+        result
     }
 }

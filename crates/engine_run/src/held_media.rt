@@ -9,6 +9,7 @@ ghost use Rattle.engine_rules.specs.Step.{Step, gather_answer, reply_of, took_an
 ghost use Rattle.engine_rules.specs.Uses.{AsksStore, ForcesDevice};
 ghost use Rattle.engine_calls.specs.declared.event.Answer.TheVariants as answer;
 ghost use Rattle.engine_calls.specs.declared.event.Event.TheVariants as event;
+ghost use Rattle.engine_run.specs.Replies.{MadeOn, RepliesBy};
 ghost use Rattle.engine_run.specs.Work.{copy_event};
 
 use crate::held::Held;
@@ -185,8 +186,13 @@ impl<S: PageStore, D: LogDevice, G: Ledger> Held<S, D, G> {
         ensures store { AsksStore S.gave S.wrote S.grew S.failures
             (asked self.old.engine.state (event.Repair copy page)) self.old.engine result
             self.new.engine }
+        ensures replies { RepliesBy (MadeOn S.PageStore D.LogDevice) (event.Repair copy page)
+            (reply_of answer.Repaired result) }
     {
-        self.engine.repair(copy, page)
+        let _ = self.engine.log_end();
+        let result = self.engine.repair(copy, page);
+        let _ = self.engine.log();
+        result
     }
 
     /// Grows the volume to so many pages, as `Engine::extend` does. An Extend is no change of a
@@ -198,7 +204,12 @@ impl<S: PageStore, D: LogDevice, G: Ledger> Held<S, D, G> {
         ensures store { AsksStore S.gave S.wrote S.grew S.failures
             (asked self.old.engine.state (event.Extend count)) self.old.engine result
             self.new.engine }
+        ensures replies { RepliesBy (MadeOn S.PageStore D.LogDevice) (event.Extend count)
+            (reply_of answer.Logged result) }
     {
-        self.engine.extend(count)
+        let _ = self.engine.log_end();
+        let result = self.engine.extend(count);
+        let _ = self.engine.log();
+        result
     }
 }

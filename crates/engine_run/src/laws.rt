@@ -14,14 +14,17 @@ ghost use Rattle.settlement.specs.declared.receipt.Receipt.{Receipt};
 ghost use Rattle.settlement.specs.Counts.{is_update};
 ghost use Rattle.settlement.specs.Receipt.{times};
 ghost use Rattle.settlement.specs.Sessions.{IsCommitIn, all_receipts, changed};
-ghost use Rattle.engine_rules.specs.EngineState.{IsFit, log_of};
+ghost use Rattle.engine_rules.specs.EngineState.{EngineState, IsFit, log_of};
 ghost use Rattle.engine_calls.specs.declared.event.Answer.{Answer};
+ghost use Rattle.engine_calls.specs.declared.event.Event.TheVariants as event;
 ghost use Rattle.engine_calls.specs.declared.refusal.Refusal.{Refusal};
 ghost use Rattle.engine_calls.specs.declared.refusal.Refusal.TheVariants.{PageOut, SlotOut};
+ghost use Rattle.engine_run.specs.declared.beginning.Beginning.{Beginning};
 ghost use Rattle.engine_run.specs.declared.work.Work.{Work};
+ghost use Rattle.engine_run.specs.Beginning.{IsBeginning};
 ghost use Rattle.engine_run.specs.Held.{IsCounted};
-ghost use Rattle.engine_run.specs.Laws.{IsRestoredBy, ReadsItsOwn};
-ghost use Rattle.engine_run.specs.Peek.{IsReadOf};
+ghost use Rattle.engine_run.specs.Laws.{IsNewTo, IsRestoredBy, ReadsItsOwn};
+ghost use Rattle.engine_run.specs.Replies.{Replies};
 ghost use Rattle.engine_run.specs.Settled.{Evidence, IsSettled, IsWrongAt, evidence_in};
 
 use crate::held::Held;
@@ -49,8 +52,8 @@ pub fn a_free_lock_guards_a_fit_engine<S: PageStore, D: LogDevice, G: Ledger>(he
 /// once: one receipt of a change has the LSN of each Update. That a receipt of a change has an
 /// Update of its own in the log is a part of what *settled* says.
 pub fn each_change_was_answered_once()
-    ensures { (began : ℕ) (e : Evidence) (sessions : List (List Receipt)) (works : List Work)
-        → IsSettled began e sessions works → (i : ℕ) (d : Record) → began ≤ i
+    ensures { (began : Beginning) (e : Evidence) (sessions : List (List Receipt)) (works : List Work)
+        → IsSettled began e sessions works → (i : ℕ) (d : Record) → began.records ≤ i
         → i < length e.log.records
         → is_update (slice_index_or e.log.records i d) ≡ true
         → times (lsn_of i) (changed (all_receipts sessions)) ≡ 1 }
@@ -58,7 +61,7 @@ pub fn each_change_was_answered_once()
 
 /// The Commit of each commit that was answered is in every log that a crash may leave.
 pub fn an_acknowledged_commit_is_kept()
-    ensures { (began : ℕ) (left : RetiredView) (sessions : List (List Receipt)) (works : List Work)
+    ensures { (began : Beginning) (left : RetiredView) (sessions : List (List Receipt)) (works : List Work)
         (kept : Log) → IsSettled began (evidence_in left) sessions works
         → IsKeptOf left.log left.forced_end kept
         → All (All (IsCommitIn kept.records)) sessions }
@@ -66,7 +69,7 @@ pub fn an_acknowledged_commit_is_kept()
 
 /// What a session read is made of its own records, too.
 pub fn a_session_reads_its_own_writes()
-    ensures { (began : ℕ) (left : RetiredView) (sessions : List (List Receipt)) (works : List Work)
+    ensures { (began : Beginning) (left : RetiredView) (sessions : List (List Receipt)) (works : List Work)
         → IsRetired left → IsSettled began (evidence_in left) sessions works
         → All (ReadsItsOwn left.log.records) sessions }
 {}
@@ -74,7 +77,7 @@ pub fn a_session_reads_its_own_writes()
 /// Each copy that was answered restores every log that a crash may leave: redo from its redo point
 /// on makes each page what redo of the whole kept log makes.
 pub fn an_answered_copy_restores()
-    ensures { (began : ℕ) (left : RetiredView) (sessions : List (List Receipt)) (works : List Work)
+    ensures { (began : Beginning) (left : RetiredView) (sessions : List (List Receipt)) (works : List Work)
         (kept : Log) → IsRetired left → IsSettled began (evidence_in left) sessions works
         → IsKeptOf left.log left.forced_end kept
         → All (IsRestoredBy left.copies kept.records) works }
@@ -82,17 +85,24 @@ pub fn an_answered_copy_restores()
     a_complete_copy_restores();
 }
 
+/// No copy that was answered was there when the run began.
+pub fn an_answered_copy_is_new()
+    ensures { (s : EngineState) (began : Beginning) (e : Evidence) (sessions : List (List Receipt))
+        (works : List Work) → IsBeginning s began → IsSettled began e sessions works
+        → All (IsNewTo s.copies) works }
+{}
+
 /// A run of which something is wrong is not settled, so a settled one is refused for memory alone.
 pub fn what_is_wrong_is_not_settled()
-    ensures { (began : ℕ) (e : Evidence) (sessions : List (List Receipt)) (works : List Work)
+    ensures { (began : Beginning) (e : Evidence) (sessions : List (List Receipt)) (works : List Work)
         (at : ℕ) → IsWrongAt began e sessions works at → ¬ IsSettled began e sessions works }
 {}
 
 /// What answers a peek looks at the slot that is asked for: a page that no volume has is refused as
 /// such, and so is a slot that no page has.
 pub fn a_peek_is_of_its_slot()
-    ensures page { (page slot : ℕ) (reply : Result Answer Refusal) → IsReadOf page slot reply
+    ensures page { (page slot : ℕ) (reply : Result Answer Refusal) → Replies (event.Read page slot) reply
         → 65536 ≤ page → reply ≡ Err PageOut }
-    ensures slot { (page slot : ℕ) (reply : Result Answer Refusal) → IsReadOf page slot reply
+    ensures slot { (page slot : ℕ) (reply : Result Answer Refusal) → Replies (event.Read page slot) reply
         → 62 ≤ slot → (reply ≡ Err PageOut) ⊎ (reply ≡ Err SlotOut) }
 {}

@@ -1,6 +1,7 @@
 //! One engine for many threads: each call is one hold of the one lock round it.
 #![tactic(auto)]
 
+mod beginning;
 mod check_ages;
 mod check_sessions;
 mod check_works;
@@ -28,6 +29,7 @@ mod spare;
 mod work;
 mod worker;
 
+pub use beginning::Beginning;
 pub use desk::SessionDesk;
 pub use fault::SettleFault;
 pub use gate::{HoldGate, OpenGate};
@@ -35,8 +37,8 @@ pub use held::Held;
 pub use idle::IdleSessions;
 pub use laws::{
     a_free_lock_guards_a_fit_engine, a_peek_is_of_its_slot, a_session_reads_its_own_writes,
-    an_acknowledged_commit_is_kept, an_answered_copy_restores, each_change_was_answered_once,
-    what_is_wrong_is_not_settled,
+    an_acknowledged_commit_is_kept, an_answered_copy_is_new, an_answered_copy_restores,
+    each_change_was_answered_once, what_is_wrong_is_not_settled,
 };
 pub use opened::Opened;
 pub use session::Session;

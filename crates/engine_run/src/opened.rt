@@ -2,6 +2,7 @@
 
 ghost use Rattle.std.specs.Prelude.{◌≡◌};
 
+use crate::beginning::Beginning;
 use crate::held::Held;
 use crate::shared::Shared;
 use crate::spare::Spare;
@@ -18,7 +19,7 @@ pub struct Opened<S: PageStore, D: LogDevice, G: Ledger> {
     held: Held<S, D, G>,
     spares: Vec<Mutex<Spare<G>>>,
     sessions: u32,
-    began: u32,
+    began: Beginning,
 }
 
 impl<S: PageStore, D: LogDevice, G: Ledger> Model for Opened<S, D, G> {
@@ -56,8 +57,8 @@ impl<S: PageStore, D: LogDevice, G: Ledger> Opened<S, D, G> {
         }
     }
 
-    /// How many records the log had before its first session.
-    pub fn began(&self) -> u32
+    /// What was there before its first session.
+    pub fn began(&self) -> Beginning
         ensures { result ≡ self.now.began }
     {
         self.began

@@ -7,9 +7,10 @@ ghost use Rattle.page_core.specs.declared.change.ChangeKind.TheVariants as kind;
 ghost use Rattle.settlement.specs.declared.receipt.Receipt.TheVariants.{Changed, Read, Stepped};
 ghost use Rattle.settlement.specs.declared.receipt.TxnStep.TheVariants as step;
 ghost use Rattle.settlement.specs.Counts.{changes_in};
-ghost use Rattle.engine_rules.specs.Step.{reply_of};
+ghost use Rattle.engine_rules.specs.Step.{reply_of, step_back_answer, undo_answer};
 ghost use Rattle.engine_calls.specs.declared.event.Answer.TheVariants as answer;
-ghost use Rattle.engine_run.specs.Peek.{IsReadOf};
+ghost use Rattle.engine_calls.specs.declared.event.Event.TheVariants as event;
+ghost use Rattle.engine_run.specs.Replies.{ForcesCommit, IsTold, MadeOn, RepliesBy};
 ghost use Rattle.engine_run.specs.Undoing.{step_back_receipts, undo_receipt};
 
 use crate::folder::Folder;
@@ -86,6 +87,8 @@ impl<G: Ledger> Session<G> {
         ensures receipt { IfOk result (λ a.
             self.new ≡ self.old ++ Stepped a.1 a.0 step.Begin ∷ []) }
         ensures refused { OnErr result (self.new ≡ self.old) }
+        ensures told { IsTold (MadeOn S.PageStore D.LogDevice) event.Begin
+            (reply_of (λ a. answer.Began a.0 a.1) result) }
     {
         make_room(&mut self.receipts)?;
         let (txn, lsn) = shared.held.lock(rt).begin()?;
@@ -111,6 +114,8 @@ impl<G: Ledger> Session<G> {
         ensures receipt { IfOk result (λ lsn.
             self.new ≡ self.old ++ Changed lsn txn page slot kind.Set number ∷ []) }
         ensures refused { OnErr result (self.new ≡ self.old) }
+        ensures told { IsTold (MadeOn S.PageStore D.LogDevice) (event.Set txn page slot number)
+            (reply_of answer.Logged result) }
     {
         make_room(&mut self.receipts)?;
         let lsn = shared
@@ -143,6 +148,8 @@ impl<G: Ledger> Session<G> {
         ensures receipt { IfOk result (λ lsn.
             self.new ≡ self.old ++ Changed lsn txn page slot kind.Add amount ∷ []) }
         ensures refused { OnErr result (self.new ≡ self.old) }
+        ensures told { IsTold (MadeOn S.PageStore D.LogDevice) (event.Add txn page slot amount)
+            (reply_of answer.Logged result) }
     {
         make_room(&mut self.receipts)?;
         let lsn = shared
@@ -173,6 +180,8 @@ impl<G: Ledger> Session<G> {
         ensures receipt { IfOk result (λ number. (end : ℕ)
             × (self.new ≡ self.old ++ Read end page slot number ∷ [])) }
         ensures refused { OnErr result (self.new ≡ self.old) }
+        ensures told { IsTold (MadeOn S.PageStore D.LogDevice) (event.Read page slot)
+            (reply_of answer.Number result) }
     {
         make_room(&mut self.receipts)?;
         let (end, number) = shared.held.lock(rt).read(page, slot)?;
@@ -196,9 +205,11 @@ impl<G: Ledger> Session<G> {
         page: PageNo,
         slot: SlotNo,
     ) -> Result<u64, Refusal>
-        ensures { IsReadOf page slot (reply_of answer.Number result) }
+        ensures { RepliesBy (MadeOn S.PageStore D.LogDevice) (event.Read page slot)
+            (reply_of answer.Number result) }
     {
-        shared.held.lock(rt).peek(page, slot)
+        let (_, number) = shared.held.lock(rt).read(page, slot)?;
+        Ok(number)
     }
 
     /// Commits a transaction, and answers the LSN of its Commit, which is forced then. Refusals are
@@ -213,6 +224,9 @@ impl<G: Ledger> Session<G> {
         ensures receipt { IfOk result (λ lsn.
             self.new ≡ self.old ++ Stepped lsn txn step.Commit ∷ []) }
         ensures refused { OnErr result (self.new ≡ self.old) }
+        ensures told { IsTold (MadeOn S.PageStore D.LogDevice) (event.Commit txn)
+            (reply_of answer.Logged result) }
+        ensures forced { IfOk result (ForcesCommit (MadeOn S.PageStore D.LogDevice) txn) }
     {
         make_room(&mut self.receipts)?;
         let lsn = shared.held.lock(rt).commit(txn)?;
@@ -236,6 +250,8 @@ impl<G: Ledger> Session<G> {
         ensures receipt { IfOk result (λ lsn.
             self.new ≡ self.old ++ Stepped lsn txn step.Abort ∷ []) }
         ensures refused { OnErr result (self.new ≡ self.old) }
+        ensures told { IsTold (MadeOn S.PageStore D.LogDevice) (event.Abort txn)
+            (reply_of answer.Logged result) }
     {
         make_room(&mut self.receipts)?;
         let lsn = shared.held.lock(rt).abort(txn)?;
@@ -259,6 +275,8 @@ impl<G: Ledger> Session<G> {
         ensures receipt { IfOk result (λ done.
             self.new ≡ self.old ++ undo_receipt txn done ∷ []) }
         ensures refused { OnErr result (self.new ≡ self.old) }
+        ensures told { IsTold (MadeOn S.PageStore D.LogDevice) (event.UndoStep txn)
+            (reply_of undo_answer result) }
     {
         make_room(&mut self.receipts)?;
         let done = shared.held.lock(rt).undo_step(txn)?;
@@ -285,7 +303,10 @@ impl<G: Ledger> Session<G> {
         rt: &impl Wait,
         shared: &Shared<S, D, G>,
         txn: TxnNo,
-    ) -> Result<Lsn, Refusal> {
+    ) -> Result<Lsn, Refusal>
+        ensures { RepliesBy (MadeOn S.PageStore D.LogDevice) (event.Savepoint txn)
+            (reply_of answer.Saved result) }
+    {
         shared.held.lock(rt).savepoint(txn)
     }
 
@@ -303,6 +324,8 @@ impl<G: Ledger> Session<G> {
         ensures receipt { IfOk result (λ done.
             self.new ≡ self.old ++ step_back_receipts txn done) }
         ensures refused { OnErr result (self.new ≡ self.old) }
+        ensures told { IsTold (MadeOn S.PageStore D.LogDevice) (event.UndoTo txn savepoint)
+            (reply_of step_back_answer result) }
     {
         make_room(&mut self.receipts)?;
         let done = shared.held.lock(rt).undo_to(txn, savepoint)?;

@@ -7,6 +7,7 @@ ghost use Rattle.settlement.specs.Volume.{AreOfVolume};
 ghost use Rattle.engine_run.specs.Settled.{AddUp, IsFaultOf, IsSettled, IsWrongAt, evidence};
 ghost use Rattle.engine_run.specs.Settled.{evidence_in, evidence_of};
 
+use crate::beginning::Beginning;
 use crate::check_ages::check_ages;
 use crate::check_sessions::{add_up, check_sessions};
 use crate::check_works::check_works;
@@ -36,14 +37,14 @@ pub struct Unsettled<S: PageStore, D: LogDevice, G: Ledger> {
 }
 
 impl<S: PageStore, D: LogDevice, G: Ledger> Held<S, D, G> {
-    /// Checks whether the run of these sessions, checkpoints and copies is settled, where the log
-    /// had `began` records before: the shares add up to the changes that it has got since, each
-    /// receipt stands, and so does each Point and copy, none of their records is older, and nothing
-    /// was answered twice. The shares are compared first; all memory is taken then.
+    /// Checks whether the run of these sessions, checkpoints and copies is settled, where `began`
+    /// was there before: the shares add up to the changes that the log has got since, each receipt
+    /// stands, and so does each Point and copy, none of their records and no copy is older, and
+    /// nothing was answered twice. The shares are compared first; all memory is taken then.
     pub fn check(
         &self,
         alloc: Global,
-        began: u32,
+        began: Beginning,
         sessions: &[Session<G>],
         works: &[Work],
     ) -> Result<(), SettleFault>
@@ -54,7 +55,7 @@ impl<S: PageStore, D: LogDevice, G: Ledger> Held<S, D, G> {
     {
         let log = self.engine.log();
         let records = log.records();
-        if !add_up(began, sessions, records) {
+        if !add_up(began.records, sessions, records) {
             return Err(SettleFault::Unsettled(Lsn(0)));
         }
         let Ok(room) = Room::new(alloc, log.pages(), records.len()) else {
@@ -77,7 +78,7 @@ impl<S: PageStore, D: LogDevice, G: Ledger> Held<S, D, G> {
 /// Checks what sessions, checkpoints and copies were answered against what a run left.
 fn check_answers<G: Ledger>(
     room: Room,
-    began: u32,
+    began: Beginning,
     log: &CountedLog<'_>,
     forced_end: Lsn,
     vault: &Vault,
@@ -88,7 +89,7 @@ fn check_answers<G: Ledger>(
     requires marks { room.marks.items ≡ replicate (length log.now.records) false }
     requires ids { room.copies.items ≡ replicate 1025 false }
     requires few { length vault.now.copies ≤ 1024 }
-    requires counted { AddUp began sessions.now log.now.records }
+    requires counted { AddUp began.records sessions.now log.now.records }
     ensures ok { let e = evidence log.now forced_end vault.now.copies in
         OnOk result (IsSettled began e sessions.now works.now) }
     ensures err { let e = evidence log.now forced_end vault.now.copies in

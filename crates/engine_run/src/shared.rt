@@ -4,7 +4,9 @@ ghost use Rattle.std.specs.Prelude.{◌≡◌, ◌+◌, ◌<◌, ◌≤◌, [], 
 ghost use Rattle.page_core.specs.Volume.{formatted_pages};
 ghost use Rattle.buffer_pool.specs.Pool.{IsFrameCount};
 ghost use Rattle.log_records.specs.Log.{IsPageCount};
+ghost use Rattle.engine_run.specs.Beginning.{IsBeginning};
 
+use crate::beginning::Beginning;
 use crate::check_sessions::update_count;
 use crate::held::Held;
 use crate::session::Session;
@@ -28,8 +30,8 @@ pub struct Shared<S: PageStore, D: LogDevice, G: Ledger> {
     /// The shares of the sessions that are not made yet.
     pub(crate) spares: Vec<Mutex<Spare<G>>>,
     pub(crate) sessions: u32,
-    /// How many records the log had before the first session.
-    pub(crate) began: u32,
+    /// What was there before the first session.
+    pub(crate) began: Beginning,
 }
 
 impl<S: PageStore, D: LogDevice, G: Ledger> Model for Shared<S, D, G> {
@@ -61,7 +63,8 @@ impl<S: PageStore + Drop, D: LogDevice + Drop, G: Ledger> Shared<S, D, G> {
         requires formatted { S.stored store ≡ formatted_pages setup.pages }
 
         ensures sessions { IfOk result (λ it. it.sessions ≡ 0) }
-        ensures began { IfOk result (λ it. it.began ≡ 0) }
+        ensures began { IfOk result (λ it.
+            it.began ≡ record { records = 0; last_copy = 0 }) }
         ensures past_bound { IfErr result (λ why. why ≡ PlayFault.LogFault
             → D.fails_from device ≤ 64) }
     {
@@ -77,7 +80,10 @@ impl<S: PageStore + Drop, D: LogDevice + Drop, G: Ledger> Shared<S, D, G> {
             held: Mutex::new(Held::new(engine, book)),
             spares,
             sessions: 0,
-            began: 0,
+            began: Beginning {
+                records: 0,
+                last_copy: 0,
+            },
         })
     }
 }
@@ -96,18 +102,15 @@ impl<S: PageStore, D: LogDevice, G: Ledger> Shared<S, D, G> {
         requires parts { blank.parts ≡ G.parts }
         requires sessions { blank.parts ≡ 65 }
         ensures sessions { IfOk result (λ it. it.sessions ≡ 0) }
-        ensures began { IfOk result (λ it. it.began ≡ length engine.state.log) }
+        ensures began { IfOk result (λ it. IsBeginning engine.state it.began) }
         ensures same { IfErr result (λ it. it ≡ engine) }
     {
         let (mut book, rest) = blank.open::<G>();
         let Ok((spares, mut rest)) = spares_of(alloc, rest) else {
             return Err(engine);
         };
-        let records = engine.log().records();
-        // A fit engine has no more records than a log may have.
-        let _end = engine.log_end();
-        let began = records.len() as u32;
-        book.add(&mut rest, update_count(records) as u64);
+        let began = Beginning::of(&engine);
+        book.add(&mut rest, update_count(engine.log().records()) as u64);
         Ok(Shared {
             held: Mutex::new(Held::new(engine, book)),
             spares,
@@ -144,8 +147,8 @@ impl<S: PageStore, D: LogDevice, G: Ledger> Shared<S, D, G> {
         self.sessions
     }
 
-    /// How many records the log had before the first session.
-    pub fn began(&self) -> u32
+    /// What was there before the first session.
+    pub fn began(&self) -> Beginning
         ensures { result ≡ self.now.began }
     {
         self.began

@@ -1,2 +1,4 @@
+mod Calling
 mod LogFound
 mod PagesFound
+mod Seated

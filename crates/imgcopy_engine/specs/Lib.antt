@@ -29,3 +29,5 @@ pub use Rattle.settlement.specs as settlement
 pub use Rattle.txn_table.specs as txn_table
 pub mod Ending
 pub mod Run
+pub mod Taken
+pub mod Trying

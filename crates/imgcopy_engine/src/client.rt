@@ -18,7 +18,15 @@ pub struct Client<'a, S: PageStore, D: LogDevice, G: Ledger, R: Wait> {
 }
 
 impl<S: PageStore, D: LogDevice, G: Ledger, R: Wait> Calls for Client<'_, S, D, G, R> {
+    ghost use Rattle.engine_run.specs.Replies.{IsTold, MadeOn};
+
     ghost receipts = { λ it. it.session };
+
+    ghost made = { MadeOn S.PageStore D.LogDevice };
+
+    ghost called = { λ old event reply new. IsTold (MadeOn S.PageStore D.LogDevice) event reply };
+
+    ghost told = { λ old new event reply is. is };
 
     fn begin(&mut self) -> Result<(TxnNo, Lsn), Refusal> {
         self.session.begin(self.rt, self.shared)

@@ -1,8 +1,10 @@
 //! The ends of a transaction.
 
-ghost use Rattle.std.specs.Prelude.{ℕ, ◌≡◌, ◌++◌, ◌∷◌, [], IfErr, IfOk, OnOk};
-ghost use Rattle.settlement.specs.declared.receipt.TxnStep.TheVariants as step;
-ghost use Rattle.imgcopy_engine.specs.Ending.{EndsAs, EndsBy, EndsStopped, EndsUncommitted, Goes};
+ghost use Rattle.std.specs.Prelude.{◌≡◌, Err, IfErr, IfOk, OnOk};
+ghost use Rattle.engine_calls.specs.declared.event.Event.TheVariants as event;
+ghost use Rattle.imgcopy_engine.specs.Ending.{Aborts, Commits, EndsAs, EndsRefused, EndsStopped};
+ghost use Rattle.imgcopy_engine.specs.Ending.{Goes, LeavesNone, RollsBack, StaysBehind, StaysOpen};
+ghost use Rattle.imgcopy_engine.specs.Ending.{StepsBack};
 
 use crate::calls::Calls;
 use crate::stop::{Committed, NotDone, Stop};
@@ -15,13 +17,12 @@ use page_core::{Lsn, TxnNo};
 /// Refusals are those of `Session::abort`, but for `TxnRolling`, and of `Session::undo_step`.
 pub fn roll_back<C: Calls>(client: &mut C, txn: TxnNo) -> Result<Lsn, Refusal>
     ensures ended { IfOk result (λ lsn.
-        EndsBy step.End lsn txn (C.receipts client.old) (C.receipts client.new)) }
+        RollsBack C.receipts C.called txn lsn client.old client.new) }
+    ensures refused { IfErr result (λ why.
+        StaysOpen C.receipts C.called txn why client.old client.new) }
     ensures kept { Goes (C.receipts client.old) (C.receipts client.new) }
 {
-    match client.abort(txn) {
-        Ok(_) | Err(Refusal::TxnRolling) => {}
-        Err(why) => return Err(why),
-    }
+    begin_rolling(client, txn)?;
     for _ in 0..MAX_RECORDS {
         if let Undone::Ended(lsn) = client.undo_step(txn)? {
             return Ok(lsn);
@@ -31,13 +32,29 @@ pub fn roll_back<C: Calls>(client: &mut C, txn: TxnNo) -> Result<Lsn, Refusal>
     Err(Refusal::TxnRolling)
 }
 
+/// Has a transaction roll back, if it does not yet.
+fn begin_rolling<C: Calls>(client: &mut C, txn: TxnNo) -> Result<(), Refusal>
+    ensures rolling { OnOk result (Aborts C.receipts C.called txn client.old client.new) }
+    ensures refused { IfErr result (λ why.
+        LeavesNone C.receipts C.called client.old (event.Abort txn) (Err why) client.new) }
+{
+    match client.abort(txn) {
+        Ok(_) | Err(Refusal::TxnRolling) => Ok(()),
+        Err(why) => Err(why),
+    }
+}
+
 /// Takes the changes of a transaction back that it made behind a savepoint. It goes on.
 /// Refusals are those of `Session::undo_to`.
 pub fn step_back<C: Calls>(client: &mut C, txn: TxnNo, savepoint: Lsn) -> Result<(), Refusal>
+    ensures reached { OnOk result
+        (StepsBack C.receipts C.called txn savepoint client.old client.new) }
+    ensures refused { IfErr result (λ why.
+        StaysBehind C.receipts C.called txn savepoint why client.old client.new) }
     ensures kept { Goes (C.receipts client.old) (C.receipts client.new) }
 {
     for _ in 0..MAX_RECORDS {
-        if client.undo_to(txn, savepoint)? == SteppedBack::Reached {
+        if let SteppedBack::Reached = client.undo_to(txn, savepoint)? {
             return Ok(());
         }
     }
@@ -52,7 +69,7 @@ pub fn finish<C: Calls, T: Drop, E: Drop>(
     txn: TxnNo,
     outcome: Result<T, Stop<E>>,
 ) -> Result<Committed<T>, NotDone<E>>
-    ensures ends { EndsAs txn (C.receipts client.old) (C.receipts client.new) outcome result }
+    ensures ends { EndsAs C.receipts C.called txn client.old outcome result client.new }
     ensures kept { Goes (C.receipts client.old) (C.receipts client.new) }
 {
     match outcome {
@@ -67,9 +84,9 @@ pub fn finish<C: Calls, T: Drop, E: Drop>(
 /// Commits a transaction, or takes all its changes back where that is refused.
 fn commit<C: Calls, E: Drop>(client: &mut C, txn: TxnNo) -> Result<Lsn, NotDone<E>>
     ensures committed { IfOk result (λ lsn.
-        EndsBy step.Commit lsn txn (C.receipts client.old) (C.receipts client.new)) }
-    ensures refused { IfErr result
-        (EndsUncommitted txn (C.receipts client.old) (C.receipts client.new)) }
+        Commits C.receipts C.called txn lsn client.old client.new) }
+    ensures refused { IfErr result (λ told.
+        EndsRefused C.receipts C.called txn client.old told client.new) }
     ensures kept { Goes (C.receipts client.old) (C.receipts client.new) }
 {
     let why = match client.commit(txn) {
@@ -84,7 +101,7 @@ fn commit<C: Calls, E: Drop>(client: &mut C, txn: TxnNo) -> Result<Lsn, NotDone<
 
 /// Takes all changes of a transaction back that was stopped so.
 fn stopped<C: Calls, E: Drop>(client: &mut C, txn: TxnNo, stop: Stop<E>) -> NotDone<E>
-    ensures ends { EndsStopped txn (C.receipts client.old) (C.receipts client.new) stop result }
+    ensures ends { EndsStopped C.receipts C.called txn client.old stop result client.new }
     ensures kept { Goes (C.receipts client.old) (C.receipts client.new) }
 {
     match roll_back(client, txn) {

@@ -5,11 +5,14 @@ ghost use Rattle.buffer_pool.specs.Pool.{IsFrameCount};
 ghost use Rattle.log_front.specs.Front.{IsFrontOf};
 ghost use Rattle.log_rules.specs.Linked.{IsLinked};
 ghost use Rattle.engine_restart.specs.LogFile.{GoesOnFromFile, LastsOnFile, WasReadWhole};
+ghost use Rattle.engine_rules.specs.EngineState.{log_of};
+ghost use Rattle.imgcopy_engine.specs.Taken.{TakesUp};
 
+use crate::taking_up::{RefusedCopy, take_up};
 use aries_core::Engine;
 use copy_vault::CompleteCopy;
 use engine_restart::{
-    FoundFault, FoundLog, FoundLogFault, RestartFault, Restarted, found_log, restart, store_of,
+    FoundFault, FoundLog, FoundLogFault, RestartFault, found_log, restart, store_of,
 };
 use file_devices::{FailedFile, FileLog, FileStore};
 use log_front::Cut;
@@ -29,8 +32,8 @@ pub struct Reopened {
     pub engine: FileEngine,
     /// Where and why the bytes behind its log were left out.
     pub cut: Option<Cut>,
-    /// How many of the copies were taken up. The others are not sound.
-    pub copies: u32,
+    /// The copies that were not taken up, in their order, and why. All others were.
+    pub refused: Vec<RefusedCopy>,
 }
 
 /// Why a database was not opened again.
@@ -105,6 +108,8 @@ pub fn reopen_files(
     requires frames { IsFrameCount frames }
     ensures goes_on { IfOk result (λ it.
         GoesOnFromFile log.1 it.cut it.engine.device it.engine.state) }
+    ensures copies { IfOk result (λ it. TakesUp (log_of it.engine.state) copies.items
+        it.refused.items it.engine.state.copies) }
 {
     let (file, len) = log;
     let FoundLog {
@@ -119,7 +124,7 @@ pub fn reopen_files(
         Ok(it) => it,
         Err((fault, _)) => return Err(ReopenFault::Restart(fault)),
     };
-    let copies = take_up(alloc, &mut restarted, copies);
+    let refused = take_up(alloc, &mut restarted, copies)?;
     let store = match FileStore::new(volume, store_of(alloc, restarted.pages())?) {
         Ok(store) => store,
         Err(why) => return Err(ReopenFault::File(why)),
@@ -128,7 +133,7 @@ pub fn reopen_files(
         Ok(engine) => Ok(Reopened {
             engine,
             cut,
-            copies,
+            refused,
         }),
         Err(fault) => Err(ReopenFault::Tables(fault)),
     }
@@ -149,18 +154,4 @@ fn log_alone(alloc: Global, file: File, len: u64) -> Result<FoundLog, ReopenFaul
         Ok(()) => Ok(found),
         Err(_) => Err(ReopenFault::Restart(RestartFault::LogFault)),
     }
-}
-
-/// Takes up the copies that are sound, and answers how many these are.
-fn take_up(alloc: Global, restarted: &mut Restarted, copies: Vec<CompleteCopy>) -> u32
-    ensures log { restarted.new.log ≡ restarted.old.log }
-    ensures pages { restarted.new.pages ≡ restarted.old.pages }
-{
-    let mut count = 0u32;
-    for copy in copies {
-        if let Ok(()) = restarted.add(alloc, copy) {
-            count = count.saturating_add(1);
-        }
-    }
-    count
 }

@@ -1,13 +1,15 @@
 //! A program on a shared engine: its tasks, each in a thread of its own.
 
-ghost use Rattle.std.specs.Prelude.{◌≡◌, IfErr, IfOk, OnOk, length};
+ghost use Rattle.std.specs.Prelude.{◌≡◌, [], IfErr, IfOk};
 ghost use Rattle.page_core.specs.Volume.{formatted_pages};
 ghost use Rattle.buffer_pool.specs.Pool.{IsFrameCount};
 ghost use Rattle.log_records.specs.Log.{IsPageCount};
-ghost use Rattle.imgcopy_engine.specs.Run.{HaveWorked, WasSettled, WasTried};
+ghost use Rattle.engine_run.specs.Beginning.{IsBeginning};
+ghost use Rattle.engine_run.specs.declared.beginning.Beginning.{Beginning};
+ghost use Rattle.imgcopy_engine.specs.Run.{TaskWork, WasSettled, WasTried};
 
 use crate::client::Client;
-use crate::seats::{gathered, seats_of, sessions_of, work_all};
+use crate::seats::{give_back, seats_of, sessions_of, work_all, works_of};
 use aries_core::{Engine, PlayFault, Setup};
 use copy_coverage::Retired;
 use engine_run::{MAX_SESSIONS, SettleFault, Shared, Work, settle};
@@ -25,17 +27,20 @@ use std::thread::Threads;
 /// What one thread of a program does with a shared engine. It is written once for all stores,
 /// devices and ledgers: `run_new` and `run_on` pick the ledger, and start the threads.
 pub trait Task<R: Wait> {
-    /// What the work makes of a task: it was the first, and is the second.
-    ghost worked: { Self → Self → Type 0 };
+    /// What the work makes of a task: it was the first, and is the second; its session was answered
+    /// these receipts, and its checkpoints and copies these works.
+    ghost worked: { TaskWork Self };
 
-    /// Does it, as the user of a session. What its checkpoints and copies are answered goes into
-    /// `works`.
+    /// Does it, as the user of a session that made no call yet. What its checkpoints and copies are
+    /// answered goes into `works`, which has none yet.
     fn work<S: PageStore, D: LogDevice, G: Ledger>(
         &mut self,
         client: &mut Client<'_, S, D, G, R>,
         works: &mut Vec<Work>,
     )
-        ensures { worked self.old self.new };
+        requires session { client.old.session ≡ [] }
+        requires works { works.old.items ≡ [] }
+        ensures { worked self.old self.new client.new.session works.new.items };
 }
 
 /// Why a run has no settled end.
@@ -65,28 +70,31 @@ impl fmt::Display for RunFault {
 impl Error for RunFault {}
 
 /// Makes a shared engine over a formatted volume, as `Shared::new` does, has each task work in a
-/// thread of its own, with a session of its own, and settles the run. Where no thread can be made,
-/// the tasks work one after another. Where it is refused the engine is gone: its log and its volume
-/// are what the devices have.
+/// thread of its own, with a session of its own, and settles the run with what all of them were
+/// answered. Where no thread can be made, the tasks work one after another. Either way the tasks
+/// are in the list again in the end, in their order. Where it is refused the engine is gone: its log
+/// and its volume are what the devices have.
 pub fn run_new<S, D, R, T>(
     rt: &R,
     alloc: Global,
     setup: Setup,
     store: S,
     device: D,
-    tasks: &mut [T],
+    tasks: &mut Vec<T>,
 ) -> Result<Retired, RunFault>
 where
     S: PageStore + Send + Drop,
     D: LogDevice + Send + Drop,
     R: Threads + Wait + Sync,
-    T: Task<R> + Send,
+    T: Task<R> + Send + Drop,
     requires pages { IsPageCount setup.pages }
     requires frames { IsFrameCount setup.frames }
     requires formatted { S.stored store ≡ formatted_pages setup.pages }
-    ensures settled { IfOk result (WasSettled 0) }
-    ensures worked { OnOk result (HaveWorked T.worked tasks.old tasks.new) }
-    ensures tried { IfErr result (λ why. WasTried T.worked why tasks.old tasks.new) }
+    ensures settled { IfOk result
+        (WasSettled T.worked (record { records = 0; last_copy = 0 }) tasks.old.items
+        tasks.new.items) }
+    ensures tried { IfErr result (λ why.
+        WasTried T.worked why tasks.old.items tasks.new.items) }
 {
     new_with::<S, D, Brand, R, T>(rt, alloc, Blank::new(65), setup, store, device, tasks)
 }
@@ -98,23 +106,25 @@ fn new_with<S, D, G, R, T>(
     setup: Setup,
     store: S,
     device: D,
-    tasks: &mut [T],
+    tasks: &mut Vec<T>,
 ) -> Result<Retired, RunFault>
 where
     S: PageStore + Send + Drop,
     D: LogDevice + Send + Drop,
     G: Ledger + Send + Sync,
     R: Threads + Wait + Sync,
-    T: Task<R> + Send,
+    T: Task<R> + Send + Drop,
     requires name { blank.name ≡ G.name }
     requires parts { blank.parts ≡ G.parts }
     requires sessions { blank.parts ≡ 65 }
     requires pages { IsPageCount setup.pages }
     requires frames { IsFrameCount setup.frames }
     requires formatted { S.stored store ≡ formatted_pages setup.pages }
-    ensures settled { IfOk result (WasSettled 0) }
-    ensures worked { OnOk result (HaveWorked T.worked tasks.old tasks.new) }
-    ensures tried { IfErr result (λ why. WasTried T.worked why tasks.old tasks.new) }
+    ensures settled { IfOk result
+        (WasSettled T.worked (record { records = 0; last_copy = 0 }) tasks.old.items
+        tasks.new.items) }
+    ensures tried { IfErr result (λ why.
+        WasTried T.worked why tasks.old.items tasks.new.items) }
 {
     match Shared::<S, D, G>::new(alloc, blank, setup, store, device) {
         Ok(shared) => run_tasks(rt, alloc, shared, tasks),
@@ -127,16 +137,17 @@ pub fn run_on<S, D, R, T>(
     rt: &R,
     alloc: Global,
     engine: Engine<S, D>,
-    tasks: &mut [T],
+    tasks: &mut Vec<T>,
 ) -> Result<Retired, RunFault>
 where
     S: PageStore + Send + Drop,
     D: LogDevice + Send + Drop,
     R: Threads + Wait + Sync,
-    T: Task<R> + Send,
-    ensures settled { IfOk result (WasSettled (length engine.state.log)) }
-    ensures worked { OnOk result (HaveWorked T.worked tasks.old tasks.new) }
-    ensures tried { IfErr result (λ why. WasTried T.worked why tasks.old tasks.new) }
+    T: Task<R> + Send + Drop,
+    ensures settled { IfOk result (λ left. (began : Beginning) × IsBeginning engine.state began
+        × WasSettled T.worked began tasks.old.items tasks.new.items left) }
+    ensures tried { IfErr result (λ why.
+        WasTried T.worked why tasks.old.items tasks.new.items) }
 {
     on_with::<S, D, Brand, R, T>(rt, alloc, Blank::new(65), engine, tasks)
 }
@@ -146,20 +157,21 @@ fn on_with<S, D, G, R, T>(
     alloc: Global,
     blank: Blank,
     engine: Engine<S, D>,
-    tasks: &mut [T],
+    tasks: &mut Vec<T>,
 ) -> Result<Retired, RunFault>
 where
     S: PageStore + Send + Drop,
     D: LogDevice + Send + Drop,
     G: Ledger + Send + Sync,
     R: Threads + Wait + Sync,
-    T: Task<R> + Send,
+    T: Task<R> + Send + Drop,
     requires name { blank.name ≡ G.name }
     requires parts { blank.parts ≡ G.parts }
     requires sessions { blank.parts ≡ 65 }
-    ensures settled { IfOk result (WasSettled (length engine.state.log)) }
-    ensures worked { OnOk result (HaveWorked T.worked tasks.old tasks.new) }
-    ensures tried { IfErr result (λ why. WasTried T.worked why tasks.old tasks.new) }
+    ensures settled { IfOk result (λ left. (began : Beginning) × IsBeginning engine.state began
+        × WasSettled T.worked began tasks.old.items tasks.new.items left) }
+    ensures tried { IfErr result (λ why.
+        WasTried T.worked why tasks.old.items tasks.new.items) }
 {
     match Shared::<S, D, G>::resume(alloc, blank, engine) {
         Ok(shared) => run_tasks(rt, alloc, shared, tasks),
@@ -172,18 +184,19 @@ fn run_tasks<S, D, G, R, T>(
     rt: &R,
     alloc: Global,
     mut shared: Shared<S, D, G>,
-    tasks: &mut [T],
+    tasks: &mut Vec<T>,
 ) -> Result<Retired, RunFault>
 where
     S: PageStore + Send + Drop,
     D: LogDevice + Send + Drop,
     G: Ledger + Send + Sync,
     R: Threads + Wait + Sync,
-    T: Task<R> + Send,
+    T: Task<R> + Send + Drop,
     requires none { shared.sessions ≡ 0 }
-    ensures settled { IfOk result (WasSettled shared.began) }
-    ensures worked { OnOk result (HaveWorked T.worked tasks.old tasks.new) }
-    ensures tried { IfErr result (λ why. WasTried T.worked why tasks.old tasks.new) }
+    ensures settled { IfOk result
+        (WasSettled T.worked shared.began tasks.old.items tasks.new.items) }
+    ensures tried { IfErr result (λ why.
+        WasTried T.worked why tasks.old.items tasks.new.items) }
 {
     if tasks.len() > MAX_SESSIONS as usize {
         return Err(RunFault::TooManyTasks);
@@ -191,14 +204,19 @@ where
     let Ok(sessions) = sessions_of(alloc, &mut shared, tasks.len()) else {
         return Err(RunFault::OutOfMemory);
     };
-    let Ok(seats) = seats_of(rt, alloc, &shared, sessions) else {
+    let Ok(mut told) = Vec::with_capacity(alloc, tasks.len()) else {
         return Err(RunFault::OutOfMemory);
     };
-    work_all(rt, &seats, tasks);
-    let Ok((sessions, works)) = gathered(alloc, seats) else {
+    let Ok(mut seats) = seats_of(rt, alloc, &shared, sessions, tasks) else {
+        return Err(RunFault::OutOfMemory);
+    };
+    work_all(rt, &mut seats);
+    let works = works_of(alloc, &seats);
+    give_back(seats, &mut told, tasks);
+    let Ok(works) = works else {
         return Err(RunFault::Unsettled(SettleFault::OutOfMemory));
     };
-    match settle(alloc, sessions, &works, shared) {
+    match settle(alloc, told, &works, shared) {
         Ok(left) => Ok(left),
         Err(back) => Err(RunFault::Unsettled(back.fault)),
     }

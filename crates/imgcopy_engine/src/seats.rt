@@ -1,7 +1,9 @@
-//! The sessions of a run, each with the works of its task.
+//! The tasks of a run, each with its session and its works.
 
-ghost use Rattle.std.specs.Prelude.{◌≡◌, ◌+◌, ◌<◌, ◌≤◌, IfOk, length, vec_len};
-ghost use Rattle.imgcopy_engine.specs.Run.{HaveWorked};
+ghost use Rattle.std.specs.Prelude.{◌≡◌, ◌+◌, ◌<◌, ◌≤◌, [], map, vec_capacity, vec_len};
+ghost use Rattle.std.specs.Prelude.{IfOk, OnErr, OnOk};
+ghost use Rattle.std.specs.List.{All};
+ghost use Rattle.imgcopy_engine.specs.Run.{HaveWorked, all_works};
 
 use crate::client::Client;
 use crate::run::Task;
@@ -9,14 +11,16 @@ use engine_run::{Session, Shared, Work};
 use log_store::LogDevice;
 use page_store::PageStore;
 use std::alloc::{AllocError, Global};
+use std::sync::Wait;
 use std::sync::ledger::Ledger;
-use std::sync::{Mutex, Wait};
-use std::thread;
 use std::thread::Threads;
+use std::{mem, thread};
 
-/// A session with its engine, and what the checkpoints and copies of its task were answered.
+/// A task, the session that it uses with its engine, and what its checkpoints and copies were
+/// answered.
 #[derive(Drop)]
-pub(crate) struct Seat<'a, S: PageStore, D: LogDevice, G: Ledger, R: Wait> {
+pub(crate) struct Seat<'a, T, S: PageStore, D: LogDevice, G: Ledger, R: Wait> {
+    task: T,
     client: Client<'a, S, D, G, R>,
     works: Vec<Work>,
 }
@@ -29,6 +33,7 @@ pub(crate) fn sessions_of<S: PageStore, D: LogDevice, G: Ledger>(
 ) -> Result<Vec<Session<G>>, AllocError>
     requires few { shared.old.sessions + count ≤ 64 }
     ensures count { IfOk result (λ it. vec_len it ≡ count) }
+    ensures empty { IfOk result (λ it. All (λ session. session ≡ []) it.items) }
     ensures began { shared.new.began ≡ shared.old.began }
 {
     let mut sessions = Vec::new(alloc);
@@ -38,74 +43,133 @@ pub(crate) fn sessions_of<S: PageStore, D: LogDevice, G: Ledger>(
     Ok(sessions)
 }
 
-/// A seat for each session.
-pub(crate) fn seats_of<'a, S: PageStore, D: LogDevice, G: Ledger, R: Wait>(
+/// A seat for each task, with a session that made no call yet. The tasks are taken out of their
+/// list, which has room to have them back.
+pub(crate) fn seats_of<'a, T: Drop, S: PageStore, D: LogDevice, G: Ledger, R: Wait>(
     rt: &'a R,
     alloc: Global,
     shared: &'a Shared<S, D, G>,
-    sessions: Vec<Session<G>>,
-) -> Result<Vec<Mutex<Seat<'a, S, D, G, R>>>, AllocError>
-    ensures count { IfOk result (λ it. vec_len it ≡ vec_len sessions) }
+    mut sessions: Vec<Session<G>>,
+    tasks: &mut Vec<T>,
+) -> Result<Vec<Seat<'a, T, S, D, G, R>>, AllocError>
+    requires enough { vec_len sessions ≡ vec_len tasks.old }
+    requires empty { All (λ session. session ≡ []) sessions.items }
+    ensures tasks { IfOk result (λ it. map (λ seat. seat.task) it.items ≡ tasks.old.items) }
+    ensures sessions { IfOk result (λ it. All (λ seat. seat.client.session ≡ []) it.items) }
+    ensures works { IfOk result (λ it. All (λ seat. seat.works.items ≡ []) it.items) }
+    ensures count { IfOk result (λ it. vec_len it ≡ vec_len tasks.old) }
+    ensures taken { OnOk result (tasks.new.items ≡ []) }
+    ensures room { OnOk result (vec_len tasks.old ≤ vec_capacity tasks.new) }
+    ensures same { OnErr result (tasks.new.items ≡ tasks.old.items) }
 {
-    let mut seats = Vec::new(alloc);
-    for session in sessions {
+    let room = Vec::with_capacity(alloc, tasks.len())?;
+    let mut seats = Vec::with_capacity(alloc, tasks.len())?;
+    let given = mem::replace(tasks, room);
+    for task in given {
         let client = Client {
-            session,
+            session: next_session(&mut sessions),
             shared,
             rt,
         };
         let works = Vec::new(alloc);
-        seats.push(Mutex::new(Seat { client, works }))?;
+        seats.push_reserved(Seat {
+            task,
+            client,
+            works,
+        });
     }
     Ok(seats)
 }
 
-/// Has each task work, in a thread of its own, at the seat of its number.
-pub(crate) fn work_all<S, D, G, R, T>(
-    rt: &R,
-    seats: &[Mutex<Seat<'_, S, D, G, R>>],
-    tasks: &mut [T],
-)
+/// Takes a session out of a list of such as made no call yet.
+fn next_session<G: Ledger>(sessions: &mut Vec<Session<G>>) -> Session<G>
+    requires some { 0 < vec_len sessions.old }
+    requires empty { All (λ session. session ≡ []) sessions.old.items }
+    ensures session { result ≡ [] }
+    ensures empty { All (λ session. session ≡ []) sessions.new.items }
+    ensures one_less { vec_len sessions.new + 1 ≡ vec_len sessions.old }
+{
+    let Some(session) = sessions.pop() else {
+        unreachable!();
+    };
+    session
+}
+
+/// Has each task work at its seat, in a thread of its own.
+pub(crate) fn work_all<T, S, D, G, R>(rt: &R, seats: &mut [Seat<'_, T, S, D, G, R>])
 where
+    T: Task<R> + Send,
     S: PageStore + Send,
     D: LogDevice + Send,
     G: Ledger + Send + Sync,
     R: Threads + Wait + Sync,
-    T: Task<R> + Send,
-    requires seats { length tasks.old ≤ length seats.now }
-    ensures { HaveWorked T.worked tasks.old tasks.new }
+    requires sessions { All (λ seat. seat.client.session ≡ []) seats.old }
+    requires works { All (λ seat. seat.works.items ≡ []) seats.old }
+    ensures { HaveWorked T.worked (map (λ seat. seat.task) seats.old)
+        (map (λ seat. seat.task) seats.new) (map (λ seat. seat.client.session) seats.new)
+        (map (λ seat. seat.works.items) seats.new) }
 {
-    let count = tasks.len();
+    let count = seats.len();
     if count == 0 {
         return;
     }
     thread::for_each_mut(
         rt,
-        tasks,
+        seats,
         count,
-        &|number, task: &mut T|
-            requires { number < length seats.now }
-            ensures { T.worked task.entry.now task.exit.now }
+        &|_, seat: &mut Seat<'_, T, S, D, G, R>|
+            requires { (seat.now.client.session ≡ []) × (seat.now.works.items ≡ []) }
+            ensures { T.worked seat.entry.now.task seat.exit.now.task seat.exit.now.client.session
+                seat.exit.now.works.items }
         {
-            let mut seat = seats[number].lock(rt);
-            let Seat { client, works } = &mut *seat;
+            let Seat {
+                task,
+                client,
+                works,
+            } = seat;
             task.work(client, works);
         },
     );
 }
 
-/// The sessions, and what all were answered.
-pub(crate) fn gathered<S: PageStore, D: LogDevice, G: Ledger, R: Wait>(
+/// What all tasks' checkpoints and copies were answered.
+pub(crate) fn works_of<T, S: PageStore, D: LogDevice, G: Ledger, R: Wait>(
     alloc: Global,
-    seats: Vec<Mutex<Seat<'_, S, D, G, R>>>,
-) -> Result<(Vec<Session<G>>, Vec<Work>), AllocError> {
-    let (mut sessions, mut works) = (Vec::new(alloc), Vec::new(alloc));
+    seats: &[Seat<'_, T, S, D, G, R>],
+) -> Result<Vec<Work>, AllocError>
+    ensures { IfOk result (λ it.
+        it.items ≡ all_works (map (λ seat. seat.works.items) seats.now)) }
+{
+    let mut works = Vec::new(alloc);
     for seat in seats {
-        let seat = seat.into_inner();
-        sessions.push(seat.client.session)?;
-        for work in &seat.works {
-            works.push(*work)?;
-        }
+        works.extend_from_slice(&seat.works)?;
     }
-    Ok((sessions, works))
+    Ok(works)
+}
+
+/// Gives the tasks back, and tells their sessions, both in their order.
+pub(crate) fn give_back<T: Drop, S: PageStore, D: LogDevice, G: Ledger, R: Wait>(
+    seats: Vec<Seat<'_, T, S, D, G, R>>,
+    sessions: &mut Vec<Session<G>>,
+    tasks: &mut Vec<T>,
+)
+    requires tasks { (tasks.old.items ≡ []) × (vec_len seats ≤ vec_capacity tasks.old) }
+    requires sessions { (sessions.old.items ≡ []) × (vec_len seats ≤ vec_capacity sessions.old) }
+    ensures tasks { tasks.new.items ≡ map (λ seat. seat.task) seats.entry.items }
+    ensures sessions { sessions.new.items ≡ map (λ seat. seat.client.session) seats.entry.items }
+{
+    for seat in seats {
+        let Seat {
+            task,
+            client,
+            works: _,
+        } = seat;
+        let Client {
+            session,
+            shared: _,
+            rt: _,
+        } = client;
+        tasks.push_reserved(task);
+        sessions.push_reserved(session);
+    }
 }

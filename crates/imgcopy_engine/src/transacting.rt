@@ -1,7 +1,9 @@
 //! A transaction whose work is a closure.
 
-ghost use Rattle.std.specs.Prelude.{ℕ, ◌≡◌, IfErr, IfOk};
-ghost use Rattle.imgcopy_engine.specs.Ending.{HasCommitted, IsStopped, IsTakenBack};
+ghost use Rattle.std.specs.Prelude.{ℕ, ◌≡◌, true, false, IfErr, IfOk};
+ghost use Rattle.std.specs.Fn.{CalledWithState};
+ghost use Rattle.imgcopy_engine.specs.Trying.{Attempts, IsBusy, IsSlotBusy, ReturnsWithState};
+ghost use Rattle.imgcopy_engine.specs.Trying.{Transacts, Tries};
 
 use crate::calls::Calls;
 use crate::ending::{finish, step_back};
@@ -12,28 +14,59 @@ use std::thread;
 
 /// Begins a transaction, does its work, and ends it as the work ends: at `Ok` it is committed, and
 /// else all its changes are taken back. Where the work met a slot that is busy, it is tried again,
-/// at most so many times, each time in a transaction of its own. If the slot is busy even then, it
-/// answers `Stopped` with that refusal, as it does with any other one.
+/// at most so many times, each time in a transaction of its own; the one before has ended then, with
+/// all its changes taken back. If the slot is busy even then, it answers `Stopped` with that
+/// refusal, as it does with any other one.
 pub fn transact<C: Calls, T: Drop, E: Drop, F: FnMut(&mut C, TxnNo) -> Result<T, Stop<E>>>(
     client: &mut C,
     tries: u32,
     mut work: F,
 ) -> Result<Committed<T>, NotDone<E>>
     requires { F.IsAlwaysCallable work }
-    ensures committed { IfOk result (λ it. HasCommitted it.lsn (C.receipts client.new)) }
-    ensures taken_back { IfErr result (λ why. IsTakenBack why (C.receipts client.new)) }
+    ensures { Transacts C.receipts C.called (CalledWithState F.FnMut) tries client.old work result
+        client.new }
 {
     for _ in 0..tries {
-        let (txn, _) = match client.begin() {
-            Ok(begun) => begun,
-            Err(why) => return Err(NotDone::NotBegun(why)),
-        };
-        let outcome = work(client, txn);
-        match finish(client, txn, outcome) {
-            Err(NotDone::Stopped(Stop::Refused(Refusal::SlotBusy(_)))) => thread::yield_now(),
-            ended => return ended,
+        let ended = try_once(client, &mut work);
+        if !is_busy(&ended) {
+            return ended;
         }
+        thread::yield_now();
     }
+    try_once(client, &mut work)
+}
+
+/// Whether a transaction met a slot that is busy, and has ended.
+fn is_busy<T, E>(ended: &Result<Committed<T>, NotDone<E>>) -> bool
+    ensures yes { result ≡ true → IsBusy ended.now }
+    ensures no { result ≡ false → ¬ IsBusy ended.now }
+{
+    match ended {
+        Err(NotDone::Stopped(Stop::Refused(why))) => is_slot_busy(why),
+        Err(NotDone::Stopped(Stop::Own(_))) => false,
+        Err(NotDone::NotBegun(_) | NotDone::Left(_, _) | NotDone::Unsure(_)) => false,
+        Ok(_) => false,
+    }
+}
+
+/// Whether a slot is busy.
+fn is_slot_busy(why: &Refusal) -> bool
+    ensures yes { result ≡ true → IsSlotBusy why.now }
+    ensures no { result ≡ false → ¬ IsSlotBusy why.now }
+{
+    matches!(why, Refusal::SlotBusy(_))
+}
+
+/// Begins a transaction, does its work, and ends it as the work ends.
+fn try_once<C: Calls, T: Drop, E: Drop, F: FnMut(&mut C, TxnNo) -> Result<T, Stop<E>>>(
+    client: &mut C,
+    work: &mut F,
+) -> Result<Committed<T>, NotDone<E>>
+    requires { F.IsAlwaysCallable work.old }
+    ensures again { F.IsAlwaysCallable work.new }
+    ensures tries { Tries C.receipts C.called (CalledWithState F.FnMut) client.old work.old result
+        work.new client.new }
+{
     let (txn, _) = match client.begin() {
         Ok(begun) => begun,
         Err(why) => return Err(NotDone::NotBegun(why)),
@@ -51,7 +84,8 @@ pub fn attempt<C: Calls, T: Drop, E: Drop, F: FnOnce(&mut C, TxnNo) -> Result<T,
     part: F,
 ) -> Result<T, NotDone<E>>
     requires { F.IsAlwaysCallable part }
-    ensures stopped { IfErr result (IsStopped txn (C.receipts client.old) (C.receipts client.new)) }
+    ensures { Attempts C.receipts C.called (ReturnsWithState F.FnOnce part) txn client.old result
+        client.new }
 {
     let savepoint = match client.savepoint(txn) {
         Ok(savepoint) => savepoint,

@@ -86,7 +86,7 @@ fn wait_at_once<G: Ledger, R: Wait + Abort + AllocGlobal>(rt: &R, blank: Blank)
     }
     let mut used = Vec::new(rt.alloc());
     for _ in 0..MAX_SESSIONS {
-        let mut session = next_session(rt, &desk);
+        let mut session = desk.take(rt).expect(rt, "a session that waits");
         add_one(rt, &shared, &mut session, PageNo(0));
         used.push(session).expect(rt, "memory for a list");
     }

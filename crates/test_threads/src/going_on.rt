@@ -2,8 +2,10 @@
 
 ghost use Rattle.std.specs.Prelude.{◌≡◌};
 
-use crate::volume::{Volume, add_one, new_session, only, settled};
-use aries_core::{Engine, Setup};
+use crate::settling::assert_refused;
+use crate::volume::{Volume, add_one, assert_copy, full_copy, new_session, only, settled};
+use aries_core::{Engine, Gathered, Setup};
+use copy_vault::CopyKind;
 use log_store::MemDevice;
 use page_core::{Lsn, PageNo, SlotNo};
 use page_store::MemStore;
@@ -11,6 +13,7 @@ use std::marker::Brand;
 use std::process::Abort;
 use std::sync::Wait;
 use std::sync::ledger::{Blank, Ledger};
+use std::thread::Threads;
 
 /// An engine for one thread, in which a transaction has added 5 to a slot.
 fn older_engine(rt: &(impl Abort + AllocGlobal)) -> Engine<MemStore, MemDevice> {
@@ -41,7 +44,8 @@ fn go_on<G: Ledger, R: Wait + Abort + AllocGlobal>(rt: &R, blank: Blank)
     let Ok(mut shared) = Volume::<G>::resume(rt.alloc(), blank, older_engine(rt)) else {
         panic!(rt; "memory for the sessions");
     };
-    assert_eq!(rt; shared.began(), 3);
+    assert_eq!(rt; shared.began().records, 3);
+    assert_eq!(rt; shared.began().last_copy, 0);
     let mut session = new_session(rt, &mut shared);
     assert_eq!(rt; session.read(rt, &shared, PageNo(0), SlotNo(0)), Ok(5));
     add_one(rt, &shared, &mut session, PageNo(0));
@@ -50,7 +54,50 @@ fn go_on<G: Ledger, R: Wait + Abort + AllocGlobal>(rt: &R, blank: Blank)
     assert_eq!(rt; left.log().records().len(), 6);
 }
 
+/// The same engine with a complete copy.
+fn copied_engine(rt: &(impl Abort + AllocGlobal)) -> Engine<MemStore, MemDevice> {
+    let mut engine = older_engine(rt);
+    assert!(rt; engine.ckpt_begin().is_ok());
+    for _ in 0..8 {
+        if engine.ckpt_gather() == Ok(Gathered::Done) {
+            break;
+        }
+    }
+    assert!(rt; engine.ckpt_end().is_ok());
+    let copy = engine.copy_full().expect(rt, "a copy begins");
+    for number in 0..8 {
+        assert!(rt; engine.take(copy, PageNo(number)).is_ok());
+    }
+    assert_eq!(rt; engine.seal(copy), Ok(8));
+    engine
+}
+
+/// The copy that was there before is not settled as one of the run, and a new one is.
+fn copy_anew<G: Ledger + Send + Sync, R: Threads + Wait + Abort + AllocGlobal + Sync>(
+    rt: &R,
+    blank: Blank,
+)
+    requires name { blank.name ≡ G.name }
+    requires parts { blank.parts ≡ G.parts }
+    requires sessions { blank.parts ≡ 65 }
+{
+    let Ok(shared) = Volume::<G>::resume(rt.alloc(), blank, copied_engine(rt)) else {
+        panic!(rt; "memory for the sessions");
+    };
+    assert_eq!(rt; shared.began().last_copy, 1);
+    assert_copy(rt, &shared, CopyKind::Full, 1, Ok(full_copy(2)));
+    let run = (Vec::new(rt.alloc()), shared);
+    let works = [full_copy(2), full_copy(1)];
+    let (sessions, shared) = assert_refused(rt, run, &works, "E28 Unsettled 0");
+    let _ = settled(rt, sessions, &[full_copy(2)], shared);
+}
+
 #[test]
 fn a_shared_engine_goes_on_from_an_older_one(rt: HostRuntime) {
     go_on::<Brand, HostRuntime>(&rt, Blank::new(65));
+}
+
+#[test]
+fn a_copy_from_before_a_run_is_not_settled(rt: HostRuntime) {
+    copy_anew::<Brand, HostRuntime>(&rt, Blank::new(65));
 }

@@ -9,7 +9,7 @@ use copy_vault::{CopyId, CopyKind};
 use engine_run::{OpenGate, Session, Work};
 use fuzzy_ckpt::Point;
 use log_records::Record;
-use loser_undo::Redone;
+use loser_undo::{Redone, undo_all};
 use media_restore::load;
 use page_core::{Page, PageNo, SlotNo, TxnNo, formatted_pages};
 use std::marker::Brand;
@@ -38,19 +38,22 @@ fn set_and_go_back<G: Ledger>(
 }
 
 /// Fifty transactions of a session: each adds 1 to a slot that all sessions share, and sets a slot
-/// of its own, at the second try.
+/// of its own, at the second try if it goes back.
 fn work<G: Ledger>(
     rt: &(impl Wait + Abort),
     shared: &Volume<G>,
     session: &mut Session<G>,
     own: PageNo,
+    goes_back: bool,
 ) {
     for round in 1..=50u64 {
         let (txn, _) = session.begin(rt, shared).expect(rt, "begin");
         session
             .add(rt, shared, txn, PageNo(7), SlotNo(0), 1)
             .expect(rt, "add");
-        set_and_go_back(rt, shared, session, txn, own);
+        if goes_back {
+            set_and_go_back(rt, shared, session, txn, own);
+        }
         session
             .set(rt, shared, txn, own, SlotNo(1), round)
             .expect(rt, "set");
@@ -92,7 +95,11 @@ fn grow<G: Ledger>(rt: &(impl Wait + Abort), shared: &Volume<G>) {
 }
 
 /// A transaction that is taken back.
-fn roll_back<G: Ledger>(rt: &(impl Wait + Abort), shared: &Volume<G>, session: &mut Session<G>) {
+fn roll_back<G: Ledger>(
+    rt: &(impl Wait + Abort),
+    shared: &Volume<G>,
+    session: &mut Session<G>,
+) -> TxnNo {
     let (txn, _) = session.begin(rt, shared).expect(rt, "begin");
     session
         .set(rt, shared, txn, PageNo(6), SlotNo(0), 9)
@@ -102,9 +109,8 @@ fn roll_back<G: Ledger>(rt: &(impl Wait + Abort), shared: &Volume<G>, session: &
     assert!(rt; matches!(first, Ok(Undone::Undid(_))));
     let last = session.undo_step(rt, shared, txn);
     assert!(rt; matches!(last, Ok(Undone::Ended(_))));
-    let after = session.undo_step(rt, shared, txn);
-    assert!(rt; matches!(after, Err(Refusal::NoTxn)));
     assert_eq!(rt; session.read(rt, shared, PageNo(6), SlotNo(0)), Ok(0));
+    txn
 }
 
 /// Takes a checkpoint of so many pages, before which every page was written.
@@ -133,7 +139,25 @@ fn clean_checkpoint<G: Ledger>(rt: &(impl Wait + Abort), shared: &Volume<G>, cou
     }
 }
 
-/// What is done on a day beside its sessions, its flusher and its copy.
+/// A day: what its transactions do, and what is done beside them.
+#[derive(Clone, Copy)]
+struct Day {
+    /// Whether each transaction goes back to a savepoint once, and then goes on.
+    goes_back: bool,
+    beside: Beside,
+}
+
+impl Day {
+    /// A day on which no transaction goes back.
+    fn with(beside: Beside) -> Day {
+        Day {
+            goes_back: false,
+            beside,
+        }
+    }
+}
+
+/// What is done beside the sessions of a day, its flusher and its copy.
 #[derive(Clone, Copy)]
 enum Beside {
     Nothing,
@@ -164,12 +188,12 @@ impl Beside {
 }
 
 /// Four sessions work at the same time, beside a flusher and a copy by three workers, and beside
-/// what else is done.
+/// what else is done that day.
 fn work_together<G: Ledger + Send + Sync, R: Threads + Wait + Abort + AllocGlobal + Sync>(
     rt: &R,
     shared: &Volume<G>,
     workers: &mut [Session<G>],
-    beside: Beside,
+    day: Day,
 ) -> Work {
     let (_, copied) = join(
         rt,
@@ -180,7 +204,7 @@ fn work_together<G: Ledger + Send + Sync, R: Threads + Wait + Abort + AllocGloba
                 5,
                 &|i, worker| {
                     if i < 4 {
-                        work(rt, shared, worker, PageNo(i as u32));
+                        work(rt, shared, worker, PageNo(i as u32), day.goes_back);
                     } else {
                         flush(rt, shared);
                     }
@@ -191,7 +215,7 @@ fn work_together<G: Ledger + Send + Sync, R: Threads + Wait + Abort + AllocGloba
             let (copied, _) = join(
                 rt,
                 || copy(rt, shared),
-                || match beside {
+                || match day.beside {
                     Beside::Nothing => {}
                     Beside::Repairs => repair(rt, shared),
                     Beside::Growth => grow(rt, shared),
@@ -213,7 +237,7 @@ fn end_the_day<G: Ledger>(
         panic!(rt; "five sessions");
     };
     assert_eq!(rt; fifth.read(rt, shared, PageNo(7), SlotNo(0)), Ok(200));
-    roll_back(rt, shared, fifth);
+    let _ = roll_back(rt, shared, fifth);
     shared.flush_pass(rt, &OpenGate).expect(rt, "flush");
 }
 
@@ -236,9 +260,9 @@ fn plain_pages(rt: &(impl Abort + AllocGlobal), count: u32, records: &[Record]) 
     plain
 }
 
-/// Copy 1 with the whole log, redone.
-fn redone_of(rt: &(impl Abort + AllocGlobal + Threads + Sync), left: Retired) -> Redone {
-    let Ok(loaded) = load(rt.alloc(), left, CopyId(1), usize::MAX) else {
+/// This copy with the whole log, redone.
+fn redone_of(rt: &(impl Abort + AllocGlobal + Threads + Sync), left: Retired, copy: u32) -> Redone {
+    let Ok(loaded) = load(rt.alloc(), left, CopyId(copy), usize::MAX) else {
         panic!(rt; "the copy is not loaded");
     };
     let Ok(redone) = loaded.redo(rt, rt.alloc()) else {
@@ -247,15 +271,10 @@ fn redone_of(rt: &(impl Abort + AllocGlobal + Threads + Sync), left: Retired) ->
     redone
 }
 
-/// Restores the volume of so many pages from copy 1, which has eight, and the whole log: each page
-/// is as plain redo of the log makes it, and has the sums of the day.
-fn assert_restored(rt: &(impl Abort + AllocGlobal + Threads + Sync), left: Retired, count: u32) {
-    assert_eq!(rt; left.log().page_count(), count);
-    let plain = plain_pages(rt, count, left.log().records());
-    let redone = redone_of(rt, left);
-    let pages = redone.pages();
+/// Asserts that pages are these, and have the sums of a day.
+fn assert_pages(rt: &impl Abort, pages: &[Page], plain: &[Page]) {
     assert_eq!(rt; pages.len(), plain.len());
-    for (page, expected) in pages.iter().zip(&plain) {
+    for (page, expected) in pages.iter().zip(plain) {
         assert!(rt; page == expected);
     }
     for page in pages.iter().take(4) {
@@ -263,6 +282,26 @@ fn assert_restored(rt: &(impl Abort + AllocGlobal + Threads + Sync), left: Retir
     }
     assert_slot(rt, pages.get(6), 0);
     assert_slot(rt, pages.get(7), 200);
+}
+
+/// Restores the volume of so many pages from this copy, which has eight, and the whole log: its
+/// pages are as plain redo of the log makes them, and nothing is left to undo.
+fn assert_restored(
+    rt: &(impl Abort + AllocGlobal + Threads + Sync),
+    left: Retired,
+    copy: u32,
+    count: u32,
+) {
+    assert_eq!(rt; left.log().page_count(), count);
+    let records = left.log().records().len();
+    let plain = plain_pages(rt, count, left.log().records());
+    let redone = redone_of(rt, left, copy);
+    assert_pages(rt, redone.pages(), &plain);
+    let Ok(undone) = undo_all(redone) else {
+        panic!(rt; "the log is not undone");
+    };
+    assert_eq!(rt; undone.records().len(), records);
+    assert_pages(rt, undone.pages(), &plain);
 }
 
 /// An engine over eight pages, and five sessions of it.
@@ -284,22 +323,35 @@ fn engine_for_five<G: Ledger, R: Abort + AllocGlobal>(
     (shared, workers)
 }
 
-/// Asserts how many receipts the sessions have. Each of 50 transactions left seven: none is of a
-/// savepoint. The fifth session read, and was answered six times when it took its transaction back.
-fn assert_receipts<G: Ledger>(rt: &impl Abort, workers: &[Session<G>]) {
+/// Asserts how many receipts the sessions have. Each of 50 transactions left five, and two more
+/// where it went back: none is of a savepoint. The fifth session read, and was answered six times
+/// when it took its transaction back.
+fn assert_receipts<G: Ledger>(rt: &impl Abort, workers: &[Session<G>], goes_back: bool) {
     assert_eq!(rt; workers.len(), 5);
-    for (worker, count) in workers.iter().zip([350usize, 350, 350, 350, 7]) {
+    let each: usize = if goes_back { 350 } else { 250 };
+    for (worker, count) in workers.iter().zip([each, each, each, each, 7]) {
         assert_eq!(rt; worker.receipts().len(), count);
     }
 }
 
-/// A run of five sessions, a flusher, two checkpoints and a copy, which is settled and restored; or
-/// of two copies, of which the first one is there before, and repairs a page; or on a volume that
-/// grows.
-fn day<G: Ledger + Send + Sync, R: Threads + Wait + Abort + AllocGlobal + Sync>(
+/// What a day is settled with: its two Points, and so many full copies.
+fn works_of(rt: &(impl Abort + AllocGlobal), points: [Work; 2], copies: u32) -> Vec<Work> {
+    let mut works = Vec::new(rt.alloc());
+    for point in points {
+        works.push(point).expect(rt, "memory for works");
+    }
+    for number in 1..=copies {
+        works.push(full_copy(number)).expect(rt, "memory for works");
+    }
+    works
+}
+
+/// A run of five sessions, a flusher, two checkpoints and a copy, which is settled, and restored
+/// from this copy; an earlier copy repairs a page meanwhile, or the volume grows, if so told.
+fn play<G: Ledger + Send + Sync, R: Threads + Wait + Abort + AllocGlobal + Sync>(
     rt: &R,
     blank: Blank,
-    beside: Beside,
+    day: Day,
 )
     requires name { blank.name ≡ G.name }
     requires parts { blank.parts ≡ G.parts }
@@ -307,19 +359,22 @@ fn day<G: Ledger + Send + Sync, R: Threads + Wait + Abort + AllocGlobal + Sync>(
 {
     let (shared, mut workers) = engine_for_five::<G, R>(rt, blank);
     let first = clean_checkpoint(rt, &shared, 8);
-    for number in 1..=beside.copies() {
+    for number in 1..=day.beside.copies() {
         assert_eq!(rt; copy(rt, &shared), full_copy(number));
     }
-    let copied = work_together(rt, &shared, workers.as_mut_slice(), beside);
-    assert_eq!(rt; copied, full_copy(beside.copies() + 1));
+    let copied = work_together(rt, &shared, workers.as_mut_slice(), day);
+    let copies = day.beside.copies() + 1;
+    assert_eq!(rt; copied, full_copy(copies));
     end_the_day(rt, &shared, workers.as_mut_slice());
-    let last = clean_checkpoint(rt, &shared, beside.pages());
-    assert_receipts(rt, workers.as_slice());
-    let left = settled(rt, workers, &[first, full_copy(1), last], shared);
-    assert_restored(rt, left, beside.pages());
+    let last = clean_checkpoint(rt, &shared, day.beside.pages());
+    assert_receipts(rt, workers.as_slice(), day.goes_back);
+    let works = works_of(rt, [first, last], copies);
+    let left = settled(rt, workers, &works, shared);
+    assert_restored(rt, left, copies, day.beside.pages());
 }
 
-/// A session reads a slot again each time another one has changed it and committed.
+/// A session reads a slot again each time another one has changed it and committed. A transaction
+/// that was taken back is there no more.
 fn read_again<G: Ledger, R: Wait + Abort + AllocGlobal>(rt: &R, blank: Blank)
     requires name { blank.name ≡ G.name }
     requires parts { blank.parts ≡ G.parts }
@@ -332,6 +387,9 @@ fn read_again<G: Ledger, R: Wait + Abort + AllocGlobal>(rt: &R, blank: Blank)
         assert_eq!(rt; reader.read(rt, &shared, PageNo(0), SlotNo(0)), Ok(sum));
         add_one(rt, &shared, &mut writer, PageNo(0));
     }
+    let txn = roll_back(rt, &shared, &mut writer);
+    let after = writer.undo_step(rt, &shared, txn);
+    assert!(rt; matches!(after, Err(Refusal::NoTxn)));
     let sessions = vec![in rt.alloc(); reader, writer].expect(rt, "memory for a list");
     let _ = settled(rt, sessions, &[], shared);
 }
@@ -344,20 +402,33 @@ fn a_session_reads_what_another_one_has_committed(rt: HostRuntime) {
 #[test]
 fn four_sessions_and_a_flusher_share_an_engine(rt: HostRuntime) {
     for _ in 0..8 {
-        day::<Brand, HostRuntime>(&rt, Blank::new(65), Beside::Nothing);
+        play::<Brand, HostRuntime>(&rt, Blank::new(65), Day::with(Beside::Nothing));
     }
 }
 
 #[test]
 fn a_page_is_repaired_beside_sessions(rt: HostRuntime) {
     for _ in 0..40 {
-        day::<Brand, HostRuntime>(&rt, Blank::new(65), Beside::Repairs);
+        play::<Brand, HostRuntime>(&rt, Blank::new(65), Day::with(Beside::Repairs));
     }
 }
 
 #[test]
 fn a_volume_grows_beside_sessions(rt: HostRuntime) {
     for _ in 0..40 {
-        day::<Brand, HostRuntime>(&rt, Blank::new(65), Beside::Growth);
+        play::<Brand, HostRuntime>(&rt, Blank::new(65), Day::with(Beside::Growth));
+    }
+}
+
+#[test]
+fn sessions_go_back_to_savepoints(rt: HostRuntime) {
+    for _ in 0..20 {
+        for beside in [Beside::Nothing, Beside::Repairs, Beside::Growth] {
+            let day = Day {
+                goes_back: true,
+                beside,
+            };
+            play::<Brand, HostRuntime>(&rt, Blank::new(65), day);
+        }
     }
 }

@@ -17,10 +17,10 @@ use std::sync::ledger::{Blank, Ledger};
 use std::thread::Threads;
 
 /// The sessions and the engine of a run.
-type Run<G> = (Vec<Session<G>>, Volume<G>);
+pub(crate) type Run<G> = (Vec<Session<G>>, Volume<G>);
 
 /// Settles a run that is not, and hands back what is given back.
-fn assert_refused<G: Ledger>(
+pub(crate) fn assert_refused<G: Ledger>(
     rt: &(impl Wait + Abort + AllocGlobal),
     run: Run<G>,
     works: &[Work],

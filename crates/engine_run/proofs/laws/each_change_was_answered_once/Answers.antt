@@ -10,6 +10,6 @@ use Rattle.engine_run.proofs.laws.each_change_was_answered_once.Goals as goal
 
 pub returns : goal.returns
 returns c = λ began e sessions works settled i d from within is.
-    one_receipt_each e.log.records e.forced_end began sessions i d settled.counted settled.receipts
-    (of_first (λ lsn. lsn_of began ≤ lsn) (written (all_receipts sessions)) (filter_map begin_of works) settled.newer)
+    one_receipt_each e.log.records e.forced_end began.records sessions i d settled.counted settled.receipts
+    (of_first (λ lsn. lsn_of began.records ≤ lsn) (written (all_receipts sessions)) (filter_map begin_of works) settled.newer)
     (records_apart began e sessions works settled) from within is

@@ -25,6 +25,7 @@ pub returns-clause-ok : goal.returns-clause-ok
 returns-clause-ok g c = record {
   counted = c.requires.counted;
   newer = c.in_default.ensures.ok;
+  new_copies = c.in_default.ensures.copies;
   receipts =
       subst (λ (rs : List Record). All (AllStand rs c.args.forced_end) c.args.sessions.now)
       c.records-records.ensures c.in_default-check_sessions.ensures.ok;

@@ -1,30 +1,32 @@
 use Rattle.std.proofs.Common.{subst, sym, ◌∙◌}
 use Rattle.log_records.specs.Log.{Log}
+use Rattle.engine_rules.specs.EngineState.{EngineState, log_of}
 use Rattle.engine_restart.specs.LogFile.{LastsOnFile, WasReadWhole}
 use Rattle.engine_restart.specs.Lives.{GoesOnFrom}
+use Rattle.imgcopy_engine.specs.Taken.{TakesUp}
 use Rattle.imgcopy_engine.proofs.LogFound.{calls_go_on, still_read}
 use Rattle.imgcopy_engine.proofs.PagesFound.{are_counted, are_numbered}
 use Rattle.imgcopy_engine.proofs.reopen.reopen_files.Goals as goal
 
 pub store_of-requires-clause-some : goal.store_of-requires-clause-some
 store_of-requires-clause-some g c =
-    (are_counted c.in_ok-log.field-0.log c.take_up-copies.new.restarted.log c.pages.result.now
+    (are_counted c.in_ok-log.field-0.log c.take_up.new.restarted.log c.pages.result.now
     c.pages-count.ensures.valid
-    (c.take_up-copies.ensures.log ∙ c.in-Ok.ensures.log) (c.pages.ensures.pages ∙ c.pages.ensures.kept.pages)).least
+    (c.take_up.ensures.log ∙ c.in-Ok.ensures.log) (c.pages.ensures.pages ∙ c.pages.ensures.kept.pages)).least
 
 pub store_of-requires-clause-few : goal.store_of-requires-clause-few
 store_of-requires-clause-few g c =
-    (are_counted c.in_ok-log.field-0.log c.take_up-copies.new.restarted.log c.pages.result.now
+    (are_counted c.in_ok-log.field-0.log c.take_up.new.restarted.log c.pages.result.now
     c.pages-count.ensures.valid
-    (c.take_up-copies.ensures.log ∙ c.in-Ok.ensures.log) (c.pages.ensures.pages ∙ c.pages.ensures.kept.pages)).most
+    (c.take_up.ensures.log ∙ c.in-Ok.ensures.log) (c.pages.ensures.pages ∙ c.pages.ensures.kept.pages)).most
 
 pub store_of-requires-clause-numbered : goal.store_of-requires-clause-numbered
-store_of-requires-clause-numbered g c = are_numbered c.take_up-copies.new.restarted.log c.pages.result.now
+store_of-requires-clause-numbered g c = are_numbered c.take_up.new.restarted.log c.pages.result.now
     (c.pages.ensures.pages ∙ c.pages.ensures.kept.pages)
 
 pub into_engine-requires-clause-device : goal.into_engine-requires-clause-device
 into_engine-requires-clause-device g c =
-    subst (λ (log : Log). LastsOnFile log c.in-Ok.it.1) (sym c.take_up-copies.ensures.log) c.in-Ok.ensures.device
+    subst (λ (log : Log). LastsOnFile log c.in-Ok.it.1) (sym c.take_up.ensures.log) c.in-Ok.ensures.device
 
 pub returns-in-Ok-into_engine : goal.returns-in-Ok-into_engine
 returns-in-Ok-into_engine g c =
@@ -41,6 +43,12 @@ returns-in-Ok-into_engine g c =
             (still_read c.args.log.1 bytes found.device undone.1 c.in_ok-log.ensures.read go_on);
         front = c.in_ok-log.ensures.front;
         goes_on = subst (λ (l : Log). GoesOnFrom l it.engine.state)
-            (c.take_up-copies.ensures.log ∙ c.in-Ok.ensures.log) it.ensures.goes_on;
+            (c.take_up.ensures.log ∙ c.in-Ok.ensures.log) it.ensures.goes_on;
       };
+      copies = subst
+          (λ (s : EngineState). TakesUp (log_of s) c.args.copies.items c.in_ok-refused.refused.items s.copies)
+          (sym it.ensures.state)
+          (subst
+          (λ (l : Log). TakesUp l c.args.copies.items c.in_ok-refused.refused.items c.take_up.new.restarted.copies)
+          (sym c.take_up.ensures.log) c.in_ok-refused.ensures.taken);
     }

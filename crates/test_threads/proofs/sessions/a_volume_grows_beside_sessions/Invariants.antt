@@ -1,4 +1,4 @@
 use Rattle.test_threads.proofs.sessions.a_volume_grows_beside_sessions.Given as goal
 
-abbrev pub ghosts-day : goal.ghosts-day
-ghosts-day g a = record { name = a.blank.name; parts = a.blank.parts }
+abbrev pub ghosts-play : goal.ghosts-play
+ghosts-play g a = record { name = a.blank.name; parts = a.blank.parts }

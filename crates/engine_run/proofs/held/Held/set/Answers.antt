@@ -1,0 +1,21 @@
+use Rattle.std.proofs.Common.{rules}
+use Rattle.engine_calls.specs.declared.event.Answer.TheVariants as answer
+use Rattle.engine_calls.specs.declared.event.Event.TheVariants as event
+use Rattle.engine_run.proofs.Replied.{replied}
+use Rattle.engine_run.proofs.held.Held.set.Goals as goal
+
+pub returns-then-is_ok-clause-replies : goal.returns-then-is_ok-clause-replies
+returns-then-is_ok-clause-replies g c =
+    let old = c.self.inside.engine in
+    let new = c.set-result.new.self in
+    replied g.S.PageStore g.D.LogDevice old new (event.Set c.args.txn c.args.page c.args.slot c.args.number) answer.Logged c.set-result.result
+    c.log_end.ensures.fit c.set-result.ensures.step (search rules) (search rules) c.log.ensures.pages
+    c.log.ensures.records
+
+pub returns-else-is_ok-clause-replies : goal.returns-else-is_ok-clause-replies
+returns-else-is_ok-clause-replies g c =
+    let old = c.self.inside.engine in
+    let new = c.set-result.new.self in
+    replied g.S.PageStore g.D.LogDevice old new (event.Set c.args.txn c.args.page c.args.slot c.args.number) answer.Logged c.set-result.result
+    c.log_end.ensures.fit c.set-result.ensures.step (search rules) (search rules) c.log.ensures.pages
+    c.log.ensures.records

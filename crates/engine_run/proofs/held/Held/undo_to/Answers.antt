@@ -1,0 +1,13 @@
+use Rattle.std.proofs.Common.{rules}
+use Rattle.engine_calls.specs.declared.event.Event.TheVariants as event
+use Rattle.engine_rules.specs.Step.{step_back_answer}
+use Rattle.engine_run.proofs.Replied.{replied}
+use Rattle.engine_run.proofs.held.Held.undo_to.Goals as goal
+
+pub returns-clause-replies : goal.returns-clause-replies
+returns-clause-replies g c =
+    let old = c.self.inside.engine in
+    let new = c.undo_to-result.new.self in
+    replied g.S.PageStore g.D.LogDevice old new (event.UndoTo c.args.txn c.args.savepoint) step_back_answer c.undo_to-result.result
+    c.log_end.ensures.fit c.undo_to-result.ensures.step (search rules) (search rules) c.log.ensures.pages
+    c.log.ensures.records
