@@ -5,8 +5,9 @@ usage: python3 -m checks.open_cases PROGRAM
 What is refused is left as it is: a log with no header, or of the first format, or of another page count; a folder without
 a log, but with what only a log leaves; a folder that another one has open, or that is not there; one where no page count
 was told. A log that was cut off before it had its header is made anew. Of copies: each reason why one is not taken up,
-and that a file whose name would be given again gets another name. Of lines: bad ones, long ones, a last one without a
-line feed, and those that are answered while more of them come. Then streams that fail, and such that do not wait.
+and that a file whose name would be given again gets another name. A log of more than LONG_LOG bytes counts to its end. Of
+lines: bad ones, long ones, a last one without a line feed, and those that are answered while more of them come. Then
+streams that fail, and such that do not wait.
 """
 
 import os
@@ -18,10 +19,10 @@ from pathlib import Path
 from threading import Thread
 
 from checks.bank_files import Failure, program_of
-from model.log_format import encode_header
+from model.log_format import ADD, BEGIN, COMMIT, RECORD_SIZE, UPDATE, Change, Record, encode_header, lsn_of
 from model.recovery import ARCHIVE, ARCHIVE_MAGIC, FULL, INCREMENTAL, Page
 
-MOST_SECONDS = 60
+MOST_SECONDS, LONG_LOG = 60, 2**24
 CHECKPOINT = b"ckpt\ngather\ngather\ngather\nendckpt\n"
 FULL_COPY = b"full\ntake 1 0\ntake 1 1\nseal 1\n"
 NOT_THERE = "No such file or directory (os error 2)"
@@ -252,6 +253,19 @@ def check_unwritten(program, log, copy):
     program.check("a master record that is right", program.run(folder), 0, line)
 
 
+def check_long_log(program):
+    """One transaction adds 1 to a slot many times, and its Commit is the last record of the log."""
+    count = LONG_LOG // RECORD_SIZE
+    add = Change(page=0, slot=0, kind=ADD, before=0, number=1)
+    records = [Record(BEGIN, 1, lsn=lsn_of(0)),
+               *(Record(UPDATE, 1, lsn_of(index - 1), add, lsn=lsn_of(index)) for index in range(1, count + 1)),
+               Record(COMMIT, 1, lsn_of(count), lsn=lsn_of(count + 1))]
+    folder = program.folder(log=encode_header(1) + b"".join(record.encode() for record in records))
+    program.check("a long log", program.run(folder, data=b"read 0 0\n"), 0,
+                  f"restarted: log cut at {lsn_of(count + 2)}, 0 transactions taken back, {count + 2} records\n"
+                  f"value {count}\n")
+
+
 def check_lines(program):
     folder = program.folder()
     long = b"#" * 1024
@@ -338,7 +352,8 @@ def main(arguments):
             raise Failure("usage: python3 -m checks.open_cases PROGRAM")
         with tempfile.TemporaryDirectory() as place:
             program = Program(program_of(arguments[0]), Path(place))
-            for check in (check_new, check_refusals, check_claim, check_copies, check_lines, check_streams, check_patience):
+            for check in (check_new, check_refusals, check_claim, check_copies, check_long_log, check_lines, check_streams,
+                          check_patience):
                 check(program)
     except (Failure, OSError, subprocess.SubprocessError) as failure:
         sys.exit(f"open_cases.py: {failure}")

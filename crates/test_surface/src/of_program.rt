@@ -2,8 +2,8 @@
 
 pub use command_words::command_of;
 pub use file_view::{
-    Form, Rows, ViewFault, Wanted, archive_header, facts_of, kind_of, put_copies, put_log,
-    put_page, put_record, read_file, show_file,
+    Form, Rows, ViewFault, Wanted, facts_of, kind_of, put_copies, put_log, put_page, put_record,
+    read_file, show_file,
 };
 pub use saved_files::{Source, put_in_place, restore_volume_with_log, save_files};
 pub use script_advice::{BadLine, Shown};

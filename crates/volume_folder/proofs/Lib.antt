@@ -1,4 +1,7 @@
 mod CopyCalls
-mod Held
 mod Reopened
+mod Runs
+mod Served
+mod TakingUp
+mod Waiting
 mod Whole

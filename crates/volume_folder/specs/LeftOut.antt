@@ -1,8 +1,14 @@
 -- Bytes behind a log that are put aside.
-use Rattle.std.specs.Prelude.{ℕ, ◌≡◌, ◌≢◌, ◌≤◌, List, length, Option}
+use Rattle.std.specs.Prelude.{ℕ, ◌≡◌, ◌≢◌, ◌≤◌, List, drop, length, Option}
 use Rattle.std.specs.List.{Any}
+use Rattle.engine_restart.specs.declared.log_file.FoundLog.{FoundLog}
+use Rattle.log_front.specs.Front.{end_of}
 use Rattle.log_records.specs.declared.limits.TheConstants.{RECORD_BYTES}
 use Rattle.saved_files.specs.Folder.{Changes, Entries, Puts}
+
+-- the bytes behind a log in its file
+abbrev pub behind : FoundLog → List ℕ
+behind found = drop (end_of found.log) found.bytes.items
 
 -- they are as many as a record has, and not zeros alone
 pub record IsWorthKeeping (bytes : List ℕ) : Type 0 where
@@ -12,3 +18,7 @@ pub record IsWorthKeeping (bytes : List ℕ) : Type 0 where
 -- a file of a folder has just these bytes, stored, under some name; every other name is as before
 abbrev pub IsKept : Option Entries → List ℕ → Option Entries → Type 0
 IsKept old bytes new = (name : List ℕ) × Changes (Puts name (λ it. it ≡ bytes)) old new
+
+-- the last change of a folder was that
+abbrev pub WasKept : List ℕ → Option Entries → Type 0
+WasKept bytes new = (old : Option Entries) × IsKept old bytes new

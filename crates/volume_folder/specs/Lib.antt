@@ -1,6 +1,12 @@
+pub mod Calls
 pub mod Closed
 pub mod Copies
 pub mod Evidence
 pub mod LeftOut
+pub mod MadeFiles
 pub mod Master
+pub mod MovedAside
+pub mod Opened
+pub mod Pending
+pub mod Said
 pub mod Session

@@ -1,126 +1,43 @@
--- What an open database answers to a call.
-use Rattle.std.specs.Prelude.{ℕ, ◌≡◌, ◌<◌, List, [], ◌∷◌, ◌++◌, Option, length, take}
-use Rattle.std.specs.Prelude.{Result, Ok, Err}
+-- The lines of an open database, and what is written of them.
+use Rattle.std.specs.Prelude.{ℕ, ◌≡◌, ◌<◌, List, [], ◌∷◌, ◌++◌, Option, Some, None, length, take}
+use Rattle.std.specs.Prelude.{Result, Ok, Err, codes}
+use Rattle.std.specs.Fmt.{decimal}
 use Rattle.std.specs.Io.KnownBytes.{Appends, Keeps}
-use Rattle.engine_rules.specs.EngineState.{EngineState}
-use Rattle.engine_rules.specs.EngineView.{EngineView}
-use Rattle.engine_rules.specs.Step.{Step}
+use Rattle.std.specs.List.{All}
+use Rattle.engine_calls.specs.EventFits.{EventFits}
 use Rattle.engine_calls.specs.declared.event.Answer.{Answer}
-use Rattle.engine_calls.specs.declared.event.Answer.TheVariants.{Copied, Point}
 use Rattle.engine_calls.specs.declared.event.Event.{Event}
 use Rattle.engine_calls.specs.declared.refusal.Refusal.{Refusal}
-use Rattle.event_script.specs.Reply.{line_of_reply}
-use Rattle.engine_calls.specs.declared.event.Event.TheVariants.{Abort, Add, Begin, CkptBegin}
-use Rattle.engine_calls.specs.declared.event.Event.TheVariants.{CkptEnd, CkptGather, Commit}
-use Rattle.engine_calls.specs.declared.event.Event.TheVariants.{CopyFull, CopyInc, DropCopy, Extend}
-use Rattle.engine_calls.specs.declared.event.Event.TheVariants.{Force, Read, Repair, Savepoint, Seal}
-use Rattle.engine_calls.specs.declared.event.Event.TheVariants.{Set, Take, UndoStep, UndoTo}
-use Rattle.engine_calls.specs.declared.event.Event.TheVariants.{WriteBegin, WriteEnd}
-use Rattle.saved_files.specs.FileFault.{line_of as line_of_fault}
-use Rattle.saved_files.specs.Folder.{Changes, Entries, Puts}
-use Rattle.saved_files.specs.PutFault.{bytes_by}
-use Rattle.log_store.specs.Master.{master_bytes}
-use Rattle.volume_folder.specs.declared.unplaced_point.UnplacedPoint.{UnplacedPoint}
+use Rattle.engine_rules.specs.EngineState.{EngineState}
+use Rattle.engine_rules.specs.Run.{Run}
+use Rattle.event_script.specs.Script.{said_in}
+use Rattle.event_script.specs.Words.{lines_of}
+use Rattle.saved_files.specs.Folder.{Entries}
+use Rattle.volume_folder.specs.Calls.{IsAnyReply, IsOfClosing, Makes, RunsBy, SaysOf}
+use Rattle.volume_folder.specs.MadeFiles.{IsInPlace, IsStoredFor}
+use Rattle.volume_folder.specs.Said.{said_line}
+use Rattle.volume_folder.specs.declared.bad_call.LineTrouble.{LineTrouble}
 use Rattle.volume_folder.specs.declared.said.Said.{Said}
-use Rattle.volume_folder.specs.declared.said.Said.TheVariants.{Reply, Unplaced}
 use Rattle.volume_folder.specs.declared.session.ServeFault.{ServeFault}
 use Rattle.volume_folder.specs.declared.session.ServeFault.TheVariants.{OutOfMemory, ReadFault}
 use Rattle.volume_folder.specs.declared.session.ServeFault.TheVariants.{WriteFault}
 
--- what is printed of an answer
-abbrev pub line_of_said : Said → List ℕ
-line_of_said (Reply reply) = line_of_reply reply
-line_of_said (Unplaced fault) = line_of_fault fault
+-- ---- one line
 
--- the same, with its line feed
-abbrev pub said_line : Said → List ℕ
-said_line said = line_of_said said ++ 10 ∷ []
+-- the first of some events
+abbrev pub first_of : List Event → Option Event
+first_of [] = None
+first_of (event ∷ events) = Some event
 
--- the line of a reply, with its line feed
-abbrev pub reply_line : Result Answer Refusal → List ℕ
-reply_line reply = line_of_reply reply ++ 10 ∷ []
+-- a line, read as a script, says this call, or nothing
+pub record Says (line : List ℕ) (event : Option Event) : Type 0 where
+  pub events : List Event
+  pub read : said_in (lines_of line) ≡ Some (events, None)
+  pub first : event ≡ first_of events
 
--- it neither makes a file nor begins a copy, so that its answer is the engine's
-abbrev pub IsPlain : Event → Type 0
-IsPlain (Seal id) = ⊥
-IsPlain CkptEnd = ⊥
-IsPlain CopyFull = ⊥
-IsPlain (CopyInc parent) = ⊥
-IsPlain Begin = Unit {0}
-IsPlain (Set txn page slot number) = Unit {0}
-IsPlain (Add txn page slot amount) = Unit {0}
-IsPlain (Read page slot) = Unit {0}
-IsPlain (Commit txn) = Unit {0}
-IsPlain (Abort txn) = Unit {0}
-IsPlain (UndoStep txn) = Unit {0}
-IsPlain (Savepoint txn) = Unit {0}
-IsPlain (UndoTo txn savepoint) = Unit {0}
-IsPlain Force = Unit {0}
-IsPlain (WriteBegin page) = Unit {0}
-IsPlain (WriteEnd page) = Unit {0}
-IsPlain CkptBegin = Unit {0}
-IsPlain CkptGather = Unit {0}
-IsPlain (Take copy page) = Unit {0}
-IsPlain (DropCopy copy) = Unit {0}
-IsPlain (Repair copy page) = Unit {0}
-IsPlain (Extend count) = Unit {0}
-
--- the engine made some calls, each of which began a copy or dropped one
-pub data OnlyCopies (old : EngineState) : EngineState → Type 0 where
-  none : OnlyCopies old old
-  full : (mid new : EngineState) (reply : Result Answer Refusal)
-      → OnlyCopies old mid → Step mid CopyFull reply new → OnlyCopies old new
-  inc : (mid new : EngineState) (parent : ℕ) (reply : Result Answer Refusal)
-      → OnlyCopies old mid → Step mid (CopyInc parent) reply new → OnlyCopies old new
-  drop : (mid new : EngineState) (copy : ℕ) (reply : Result Answer Refusal)
-      → OnlyCopies old mid → Step mid (DropCopy copy) reply new → OnlyCopies old new
-
--- what may be said of a reply to a call that makes a file: an answer, or that the file is not in
--- place; where the engine has made the call before, that is said which had to be said then
-abbrev pub IsSaidOf : Result Answer Refusal → Refusal → Said → Type 0
-IsSaidOf (Ok answer) again (Reply said) = said ≡ Ok answer
-IsSaidOf (Err why) again (Reply (Err said)) = said ≡ why
-IsSaidOf (Err why) again (Reply (Ok answer)) = why ≡ again
-IsSaidOf (Ok answer) again (Unplaced fault) = Unit {0}
-IsSaidOf (Err why) again (Unplaced fault) = why ≡ again
-
--- the engine made this call, and that is said of its reply; it refuses the call, where it has made
--- it before, in this way
-abbrev pub SaysOf : EngineState → Event → Refusal → Said → EngineState → Type 0
-SaysOf old event again said new =
-    (reply : Result Answer Refusal) × Step old event reply new × IsSaidOf reply again said
-
--- a call was accepted
-abbrev pub IsAnswer : Said → Type 0
-IsAnswer (Reply (Ok answer)) = Unit {0}
-IsAnswer (Reply (Err why)) = ⊥
-IsAnswer (Unplaced fault) = ⊥
-
--- this is answered, or that a file is not in place
-abbrev pub IsAnswerOr : Answer → Said → Type 0
-IsAnswerOr answer (Reply said) = said ≡ Ok answer
-IsAnswerOr answer (Unplaced fault) = Unit {0}
-
--- the answer of the call that ended a checkpoint
-abbrev pub answer_of : UnplacedPoint → Answer
-answer_of point = Point point.begin point.end point.redo
-
--- these bytes are the master record of a checkpoint
-abbrev pub is_master : ℕ → ℕ → List ℕ → Type 0
-is_master begin end =
-    bytes_by (λ old new. Appends old new (master_bytes (record { begin = begin; end = end })))
-
--- where a checkpoint is answered, this holds of its begin and its end
-abbrev pub IfPoint : Said → (ℕ → ℕ → Type 0) → Type 0
-IfPoint said holds = (begin end redo : ℕ) → said ≡ Reply (Ok (Point begin end redo)) → holds begin end
-
--- where a new copy is answered, this holds of its id
-abbrev pub IsCopy : Said → (ℕ → Type 0) → Type 0
-IsCopy said holds = (id : ℕ) → said ≡ Reply (Ok (Copied id)) → holds id
-
--- the last change of a folder put a file of such bytes in place
-abbrev pub WasPut : List ℕ → (List ℕ → Type 0) → Option Entries → Type 0
-WasPut name fits new = (before : Option Entries) × Changes (Puts name fits) before new
+-- what is written of a line that is no call, by its number and for this reason
+abbrev pub bad_line : ℕ → List ℕ → List ℕ
+bad_line number why = codes "bad line " ++ (decimal number ++ (codes ": " ++ (why ++ 10 ∷ [])))
 
 -- nothing of a line was written, for want of memory, or just so many of its first bytes
 abbrev pub LeavesLine : Option (List ℕ) → Option (List ℕ) → List ℕ → ServeFault → Type 0
@@ -129,16 +46,106 @@ LeavesLine old new line ReadFault = ⊥
 LeavesLine old new line (WriteFault done) =
     (done < length line) × Appends old new (take done line)
 
--- the engine made the call, and then the line of its reply was written
-abbrev pub Answers : {S D : Type 0} → EngineView S D → Event → EngineView S D
-    → Option (List ℕ) → Option (List ℕ) → Type 0
-Answers before event after old new =
-    (reply : Result Answer Refusal) × Step before.state event reply after.state
-    × Appends old new (reply_line reply)
+-- a line that is no call has its answer
+abbrev pub WritesBad : ℕ → Option (List ℕ) → Option (List ℕ) → Type 0
+WritesBad number before after = (why : List ℕ) × Appends before after (bad_line number why)
 
--- the engine made the call, and the line of its reply was not written, or not all of it
-abbrev pub LeavesAnswer : {S D : Type 0} → EngineView S D → Event → EngineView S D
-    → Option (List ℕ) → Option (List ℕ) → ServeFault → Type 0
-LeavesAnswer before event after old new fault =
-    (reply : Result Answer Refusal) × Step before.state event reply after.state
-    × LeavesLine old new (reply_line reply) fault
+-- its answer was not written, or not all of it
+abbrev pub LeavesBad : ℕ → Option (List ℕ) → Option (List ℕ) → ServeFault → Type 0
+LeavesBad number before after fault =
+    (why : List ℕ) × LeavesLine before after (bad_line number why) fault
+
+-- the engine made the call of a line, and then the line of what is said of it was written; where
+-- that tells of a file, the file was in place before
+pub record Answers (event : Event) (old new : EngineState) (entries : Option Entries)
+    (is_stored : Type 0) (before after : Option (List ℕ)) : Type 0 where
+  pub said : Said
+  pub made : Makes event old said new
+  pub in_place : IsInPlace event said new entries
+  pub stored : IsStoredFor event said is_stored
+  pub written : Appends before after (said_line said)
+
+-- the same, but that line was not written, or not all of it
+pub record LeavesAnswer (event : Event) (old new : EngineState) (entries : Option Entries)
+    (is_stored : Type 0) (before after : Option (List ℕ)) (fault : ServeFault) : Type 0 where
+  pub said : Said
+  pub made : Makes event old said new
+  pub in_place : IsInPlace event said new entries
+  pub stored : IsStoredFor event said is_stored
+  pub left : LeavesLine before after (said_line said) fault
+
+-- the line of this number was taken: its call was answered; or it says nothing, and nothing was
+-- done; or it is no call, which was written, and the engine was not called
+abbrev pub Takes : ℕ → Result (Option Event) LineTrouble → EngineState → EngineState
+    → Option Entries → Type 0 → Option (List ℕ) → Option (List ℕ) → Type 0
+Takes number (Ok None) old new entries is_stored before after = (new ≡ old) × (after ≡ before)
+Takes number (Ok (Some event)) old new entries is_stored before after =
+    Answers event old new entries is_stored before after
+Takes number (Err why) old new entries is_stored before after =
+    (new ≡ old) × WritesBad number before after
+
+-- the same, but its answer was not written, or not all of it
+abbrev pub LeavesTaken : ℕ → Result (Option Event) LineTrouble → EngineState → EngineState
+    → Option Entries → Type 0 → Option (List ℕ) → Option (List ℕ) → ServeFault → Type 0
+LeavesTaken number (Ok None) old new entries is_stored before after fault = ⊥
+LeavesTaken number (Ok (Some event)) old new entries is_stored before after fault =
+    LeavesAnswer event old new entries is_stored before after fault
+LeavesTaken number (Err why) old new entries is_stored before after fault =
+    (new ≡ old) × LeavesBad number before after fault
+
+-- ---- all lines
+
+-- lines were taken one after another, and these calls of the engine were made for them, with these
+-- replies: of each call that a line says, what is said of its replies was written, and of each line
+-- that is none, that it is none
+pub data Tells (before : Option (List ℕ))
+    : List Event → List (Result Answer Refusal) → Option (List ℕ) → Type 0 where
+  nothing_told : Tells before [] [] before
+  call_told : (events made : List Event) (replies given : List (Result Answer Refusal))
+      (text after : Option (List ℕ)) (line : List ℕ) (event : Event) (said : Said)
+      → Tells before events replies text → Says line (Some event) → SaysOf event made given said
+      → Appends text after (said_line said)
+      → Tells before (events ++ made) (replies ++ given) after
+  bad_told : (events : List Event) (replies : List (Result Answer Refusal))
+      (text after : Option (List ℕ)) (number : ℕ)
+      → Tells before events replies text → WritesBad number text after
+      → Tells before events replies after
+
+-- the engine ran by the calls of the lines that were taken, and its replies were told
+pub record Serves (old new : EngineState) (before after : Option (List ℕ)) : Type 0 where
+  pub events : List Event
+  pub replies : List (Result Answer Refusal)
+  pub fit : All EventFits events
+  pub run : Run old events replies new
+  pub told : Tells before events replies after
+
+-- how the last line was left: it was not read, or not taken for want of memory; its call was made,
+-- and not told; or it is no call, and that was not told
+pub data LeavesLast (old new : EngineState) (before after : Option (List ℕ)) (fault : ServeFault)
+    : Type 0 where
+  not_taken : new ≡ old → after ≡ before → LeavesLast old new before after fault
+  not_told : (event : Event) (said : Said) → Makes event old said new
+      → LeavesLine before after (said_line said) fault → LeavesLast old new before after fault
+  bad_not_told : (number : ℕ) → new ≡ old → LeavesBad number before after fault
+      → LeavesLast old new before after fault
+
+-- lines were taken, and then one was left
+pub record LeavesServed (old new : EngineState) (before after : Option (List ℕ))
+    (fault : ServeFault) : Type 0 where
+  pub engine : EngineState
+  pub written : Option (List ℕ)
+  pub served : Serves old engine before written
+  pub last : LeavesLast engine new written after fault
+
+-- lines were taken to the end, or up to one that was left
+pub data ServesLines (old new : EngineState) : Type 0 where
+  all_served : (before after : Option (List ℕ)) → Serves old new before after → ServesLines old new
+  one_left : (before after : Option (List ℕ)) (fault : ServeFault)
+      → LeavesServed old new before after fault → ServesLines old new
+
+-- an engine ran by the calls of such lines, and then the log was forced and pages were written; no
+-- other call was made
+pub record LivesByLines (old new : EngineState) : Type 0 where
+  pub end : EngineState
+  pub served : ServesLines old end
+  pub closed : RunsBy IsOfClosing IsAnyReply end new

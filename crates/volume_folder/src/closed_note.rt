@@ -1,8 +1,9 @@
 //! The note of the log's end that a clean closing leaves.
 
-ghost use Rattle.std.specs.Prelude.{◌≡◌, ◌++◌, [], ◌∷◌, decimal};
+ghost use Rattle.std.specs.Prelude.{◌≡◌, ◌++◌, [], ◌∷◌, OnOk, decimal};
 ghost use Rattle.std.specs.Io.KnownBytes.{Appends};
 ghost use Rattle.saved_files.specs.FileFault.{Leaves};
+ghost use Rattle.saved_files.specs.Folder.{Changes, IsSame};
 ghost use Rattle.volume_folder.specs.Closed.{note_of};
 
 use crate::fault::OpenFault;
@@ -14,7 +15,6 @@ use std::alloc::Global;
 use std::fs;
 use std::io::{Read, Write};
 use std::path::Path;
-use system_files::SystemFolder;
 
 /// How many bytes of the file are looked at. A note has fewer.
 const MOST_BYTES: usize = 32;
@@ -85,11 +85,17 @@ fn note_in(bytes: &[u8]) -> Option<ClosedNote> {
 }
 
 /// Removes the note, and sees that its name is gone for certain.
-pub(crate) fn remove_note(
+pub(crate) fn remove_note<F: Folder>(
     files: &HostRuntime,
-    folder: &mut SystemFolder<'_>,
+    folder: &mut F,
     name: &str,
-) -> Result<(), OpenFault> {
+) -> Result<(), OpenFault>
+    requires { F.is_claimed folder.old }
+    ensures stored { OnOk result (F.is_stored folder.new) }
+    // What this writes has other names.
+    ensures same { OnOk result (Changes IsSame (F.entries folder.old) (F.entries folder.new)) }
+    ensures claimed { F.is_claimed folder.new }
+{
     let path = Path::new(name).join(files.alloc(), CLOSED)?;
     fs::remove_file(files, path.as_path()).map_err(|error| OpenFault::of(Place::Closed, &error))?;
     folder.sync_names().map_err(OpenFault::of_folder)

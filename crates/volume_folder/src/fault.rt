@@ -2,7 +2,7 @@
 
 use crate::evidence::Loss;
 use crate::place::Place;
-use engine_restart::{FoundFault, RestartFault};
+use engine_restart::{FoundFault, FoundLogFault, RestartFault};
 use file_devices::FailedFile;
 use page_core::FaultName;
 use saved_files::FileFault;
@@ -129,6 +129,17 @@ impl<T: Drop> From<AllocFailed<T>> for OpenFault {
 impl From<ClaimFault> for OpenFault {
     fn from(fault: ClaimFault) -> OpenFault {
         OpenFault::Unclaimed(fault)
+    }
+}
+
+impl From<FoundLogFault> for OpenFault {
+    fn from(fault: FoundLogFault) -> OpenFault {
+        match fault {
+            FoundLogFault::OutOfMemory => OpenFault::OutOfMemory,
+            FoundLogFault::TooLong(len) => OpenFault::TooLong(len),
+            FoundLogFault::File(why) => OpenFault::of_device(Place::Log, &why),
+            FoundLogFault::Found(why, _) => OpenFault::Found(why),
+        }
     }
 }
 

@@ -1,5 +1,7 @@
 //! The files of copies, as they are found in a folder.
 
+ghost use Rattle.std.specs.Prelude.{◌≡◌, IfOk, map};
+
 use crate::copy_trouble::CopyTrouble;
 use crate::told::Teller;
 use copy_vault::{ArchiveFault, CompleteCopy, CopyId, read_archive};
@@ -29,10 +31,9 @@ pub(crate) struct CopyFile {
 }
 
 /// Reads the files of the copies of these ids.
-pub(crate) fn read_copies(
-    teller: &Teller<'_>,
-    ids: &[CopyId],
-) -> Result<Vec<CopyFile>, AllocError> {
+pub(crate) fn read_copies(teller: &Teller<'_>, ids: &[CopyId]) -> Result<Vec<CopyFile>, AllocError>
+    ensures { IfOk result (λ files. map (λ file. file.id) files.items ≡ ids.now) }
+{
     let mut copies = Vec::new(teller.rt.alloc());
     for id in ids {
         let found = read_copy(teller, *id)?;

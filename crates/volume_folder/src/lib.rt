@@ -4,6 +4,8 @@
 
 mod bad_call;
 mod begin;
+mod call_kind;
+mod claims_soon;
 mod closed_note;
 mod copies;
 mod copy_trouble;

@@ -1,49 +1,48 @@
-//! The file of a log, and what it has.
+//! The file of a log.
 
-ghost use Rattle.std.specs.Prelude.{◌≡◌, IfOk, OnOk, drop, take};
-ghost use Rattle.log_rules.specs.Linked.{IsLinked};
-ghost use Rattle.engine_restart.specs.Restart.{HasLasting};
-ghost use Rattle.file_devices.specs.FileLog.{known_of};
-ghost use Rattle.log_front.specs.Front.{IsFrontOf, end_of};
-ghost use Rattle.log_records.specs.Log.{log_bytes};
+ghost use Rattle.std.specs.Prelude.{◌≡◌, ◌≤◌, true, IfOk};
 
-use crate::begin::code_of;
 use crate::fault::OpenFault;
 use crate::names::LOG;
 use crate::place::Place;
-use engine_restart::log_in;
-use file_devices::FileLog;
-use log_front::Cut;
-use log_records::{HEADER_BYTES, MAX_LOG_BYTES};
-use log_store::LogImage;
-use page_core::zeros;
-use std::alloc::Global;
+use log_records::HEADER_BYTES;
+use saved_files::Folder;
 use std::fs::{File, TryLockError};
 use std::io::ErrorKind;
 use std::os::unix::fs::FileExt;
 use std::path::Path;
 use std::{fs, io};
 
-/// How many bytes a log's file may have at most to be read. The longest log has half of them.
-const MOST_BYTES: usize = 2 * MAX_LOG_BYTES;
-
-/// The file of a log. It is locked as long as it is open.
+/// The file of a log, which is locked as long as it is open.
 #[derive(Drop)]
-pub(crate) enum LogFile {
-    Absent,
-    /// It is there, but its log never had a header: it was cut off while it was made.
-    Headless(File),
-    /// It has so many bytes.
-    Written(File, u64),
+pub(crate) struct LogFile {
+    pub file: File,
+    /// How many bytes it has.
+    pub len: u64,
 }
 
-fn of_log(error: io::Error) -> OpenFault {
+impl LogFile {
+    /// Whether its log never had a header: it was cut off while it was made. A header is stored by
+    /// one write, so after a loss of power its place may be there with zeros in it.
+    pub fn is_headless(&self) -> io::Result<bool>
+        ensures { IfOk result (λ is. is ≡ true → self.now.len ≤ HEADER_BYTES) }
+    {
+        if self.len != HEADER_BYTES as u64 {
+            return Ok(self.len < HEADER_BYTES as u64);
+        }
+        let mut header = [0; HEADER_BYTES];
+        self.file.read_exact_at(&mut header, 0)?;
+        Ok(header == [0; HEADER_BYTES])
+    }
+}
+
+pub(crate) fn of_log(error: io::Error) -> OpenFault {
     OpenFault::of(Place::Log, &error)
 }
 
-/// Opens the file of the log in a folder, and locks it: a log that has two names, by a link, is
-/// open once.
-pub(crate) fn open_log(files: &HostRuntime, folder: &str) -> Result<LogFile, OpenFault> {
+/// Opens the file of the log in a folder, if it is there, and locks it: a log that has two names, by
+/// a link, is open once.
+pub(crate) fn open_log(files: &HostRuntime, folder: &str) -> Result<Option<LogFile>, OpenFault> {
     let path = Path::new(folder).join(files.alloc(), LOG)?;
     let opened = File::options()
         .read(true)
@@ -59,17 +58,17 @@ pub(crate) fn open_log(files: &HostRuntime, folder: &str) -> Result<LogFile, Ope
         return Err(OpenFault::NoFile(Place::Log));
     }
     lock(&file)?;
-    if is_headless(&file, there.len()).map_err(of_log)? {
-        return Ok(LogFile::Headless(file));
-    }
-    Ok(LogFile::Written(file, there.len()))
+    Ok(Some(LogFile {
+        file,
+        len: there.len(),
+    }))
 }
 
 /// What it is where no file can be opened by the log's name: nothing, or a link that leads nowhere.
-fn absent(files: &HostRuntime, path: Path<'_>) -> Result<LogFile, OpenFault> {
+fn absent(files: &HostRuntime, path: Path<'_>) -> Result<Option<LogFile>, OpenFault> {
     match fs::symlink_metadata(files, path) {
         Ok(_) => Err(OpenFault::LinkToNothing),
-        Err(error) if error.kind() == ErrorKind::NotFound => Ok(LogFile::Absent),
+        Err(error) if error.kind() == ErrorKind::NotFound => Ok(None),
         Err(error) => Err(of_log(error)),
     }
 }
@@ -83,89 +82,17 @@ fn lock(file: &File) -> Result<(), OpenFault> {
     }
 }
 
-/// Whether a file of so many bytes never had a header. A header is stored by one write, so after a
-/// loss of power its place may be there with zeros in it.
-fn is_headless(file: &File, len: u64) -> io::Result<bool> {
-    if len != HEADER_BYTES as u64 {
-        return Ok(len < HEADER_BYTES as u64);
-    }
-    let mut header = [0; HEADER_BYTES];
-    file.read_exact_at(&mut header, 0)?;
-    Ok(header == [0; HEADER_BYTES])
-}
-
-/// Makes the file of a new log, and locks it.
-pub(crate) fn make_log(files: &HostRuntime, folder: &str) -> Result<File, OpenFault> {
-    let path = Path::new(folder).join(files.alloc(), LOG)?;
+/// Makes the file of a new log in a folder, and locks it. Its name need not last yet.
+pub(crate) fn make_log<F: Folder>(
+    files: &HostRuntime,
+    _folder: &mut F,
+    name: &str,
+) -> Result<File, OpenFault>
+    requires { F.is_claimed _folder.old }
+    ensures { F.is_claimed _folder.new }
+{
+    let path = Path::new(name).join(files.alloc(), LOG)?;
     let file = File::create_new(files, path.as_path()).map_err(of_log)?;
     lock(&file)?;
     Ok(file)
-}
-
-/// A log that was read, and the device that has it.
-#[derive(Drop)]
-pub(crate) struct FoundLog {
-    pub log: LogImage,
-    /// Where and why the bytes behind it are left out.
-    pub cut: Option<Cut>,
-    /// All bytes of the file.
-    pub bytes: Vec<u8>,
-    pub device: FileLog,
-    ghost spelled: { take (end_of log) bytes.items ≡ log_bytes log },
-}
-
-impl FoundLog {
-    /// The bytes behind the log.
-    pub fn behind(&self) -> &[u8]
-        ensures { result.now ≡ drop (end_of self.now.log) self.now.bytes.items }
-    {
-        let end = self.log.end().0 as usize;
-        self.bytes.get(end..).unwrap_or(&[])
-    }
-
-    /// Stores the log again, cuts off what stands behind it, and waits until that lasts.
-    pub fn keep_front(&mut self) -> Result<(), OpenFault>
-        ensures log { self.new.log ≡ self.old.log }
-        ensures device { OnOk result
-            (HasLasting (λ calls. (known_of calls).bytes) (λ calls. (known_of calls).lasting)
-            self.new.log self.new.device) }
-        ensures alone { OnOk result
-            ((known_of self.new.device).bytes ≡ log_bytes self.new.log) }
-    {
-        let end = self.log.end().0 as usize;
-        let front = &self.bytes[..end];
-        match self.device.keep(front) {
-            Ok(()) => Ok(()),
-            Err(_) => Err(OpenFault::System(Place::Log, code_of(self.device.error()))),
-        }
-    }
-}
-
-/// Reads a log's file of so many bytes, and finds its front. It writes nothing.
-pub(crate) fn read_log(alloc: Global, file: File, len: u64) -> Result<FoundLog, OpenFault>
-    ensures linked { IfOk result (λ it. IsLinked it.log.records) }
-    ensures front { IfOk result (λ it.
-        IsFrontOf it.bytes.items (record { log = it.log; cut = it.cut })) }
-    ensures device { IfOk result (λ it.
-        HasLasting (λ calls. (known_of calls).bytes) (λ calls. (known_of calls).lasting)
-        it.log it.device) }
-{
-    let count = usize::try_from(len).unwrap_or(usize::MAX);
-    if count > MOST_BYTES {
-        return Err(OpenFault::TooLong(len));
-    }
-    let mut bytes = zeros(alloc, count)?;
-    let device = match FileLog::resume(file, &mut bytes) {
-        Ok(device) => device,
-        Err(why) => return Err(OpenFault::of_device(Place::Log, &why)),
-    };
-    match log_in(alloc, &bytes) {
-        Ok((log, cut)) => Ok(FoundLog {
-            log,
-            cut,
-            bytes,
-            device,
-        }),
-        Err(fault) => Err(OpenFault::Found(fault)),
-    }
 }

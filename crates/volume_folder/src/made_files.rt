@@ -1,6 +1,6 @@
 //! The calls whose answers say that a file is in place.
 
-ghost use Rattle.std.specs.Prelude.{ℕ, ◌≡◌, ◌≢◌, IfSome, MatchOption, None, Ok, OnOk};
+ghost use Rattle.std.specs.Prelude.{ℕ, ◌≡◌, ◌≢◌, Err, IfSome, None, Ok, OnErr, OnOk};
 ghost use Rattle.std.specs.List.{Contains};
 ghost use Rattle.copy_vault.specs.CopyWrite.{WritesCopy};
 ghost use Rattle.engine_calls.specs.declared.event.Answer.TheVariants.{Copied, Point};
@@ -10,8 +10,11 @@ ghost use Rattle.engine_rules.specs.Step.{Step};
 ghost use Rattle.saved_files.specs.PutFault.{bytes_by};
 ghost use Rattle.saved_files.specs.Saved.{name_of};
 ghost use Rattle.saved_files.specs.declared.saved_name.SavedName.TheVariants as saved;
-ghost use Rattle.volume_folder.specs.Session.{IfPoint, IsAnswer, IsAnswerOr, IsCopy, OnlyCopies};
-ghost use Rattle.volume_folder.specs.Session.{SaysOf, WasPut, answer_of, is_master};
+ghost use Rattle.volume_folder.specs.Calls.{Makes, copy_call};
+ghost use Rattle.volume_folder.specs.MadeFiles.{IfPoint, IsCopy, StepsAndSays, WasPut, answer_of};
+ghost use Rattle.volume_folder.specs.MadeFiles.{is_master};
+ghost use Rattle.volume_folder.specs.Pending.{Waits, WaitsFree, WaitsUnlessPlaced};
+ghost use Rattle.volume_folder.specs.Said.{IsAnswer, IsAnswerOr};
 
 use crate::engine_files::{place_copy, place_master};
 use crate::moved_aside::{move_copy_aside, move_master_aside};
@@ -30,19 +33,18 @@ impl<F: Folder, S: PageStore, D: LogDevice + TellsWhy> Session<'_, F, S, D> {
     /// before, and its file is not in place, that is tried again.
     pub(crate) fn seal(&mut self, id: u32) -> Said
         requires { F.is_claimed self.old.folder }
-        ensures says { SaysOf self.old.engine.state (event.Seal id) refusal.CopyNotOpen result
-            self.new.engine.state }
+        ensures says { StepsAndSays self.old.engine.state (event.Seal id) refusal.CopyNotOpen
+            result self.new.engine.state }
         // Where it is said that the copy is complete, its file is in place, and its name lasts.
         ensures put { IsAnswer result → WasPut (name_of (saved.Copy id))
             (bytes_by (WritesCopy self.new.engine.state.copies id)) (F.entries self.new.folder) }
         ensures stored { IsAnswer result → F.is_stored self.new.folder }
+        // Where it is said that the file is not in place, the copy waits for it from then on.
+        ensures waits { WaitsUnlessPlaced id result self.new.pending }
         ensures claimed { F.is_claimed self.new.folder }
     {
-        match self.engine.apply(Event::Seal(CopyId(id))) {
-            Ok(answer) => {
-                self.pending.begin(id);
-                self.place_sealed(id, answer)
-            }
+        match self.complete(id) {
+            Ok(answer) => self.place_sealed(id, answer),
             Err(Refusal::CopyNotOpen) => match self.waiting(id) {
                 Some(taken) => self.place_sealed(id, Answer::Sealed(taken)),
                 None => Said::Reply(Err(Refusal::CopyNotOpen)),
@@ -51,8 +53,26 @@ impl<F: Folder, S: PageStore, D: LogDevice + TellsWhy> Session<'_, F, S, D> {
         }
     }
 
+    /// Makes a copy complete, which waits for its file then.
+    fn complete(&mut self, id: u32) -> Reply
+        ensures step { Step self.old.engine.state (event.Seal id) result self.new.engine.state }
+        ensures waits { OnOk result (Waits self.new.pending id) }
+        ensures refused { OnErr result (self.new.pending ≡ self.old.pending) }
+        ensures folder { self.new.folder ≡ self.old.folder }
+    {
+        let reply = self.engine.apply(Event::Seal(CopyId(id)));
+        if reply.is_ok() {
+            // The engine is fit, and so has no more copies than may wait.
+            let _end = self.engine.log_end();
+            self.pending.begin(id);
+        }
+        reply
+    }
+
     /// How many pages a complete copy has whose file is not in place, if this is one.
-    fn waiting(&self, id: u32) -> Option<u32> {
+    fn waiting(&self, id: u32) -> Option<u32>
+        ensures { IfSome result (λ _. Waits self.now.pending id) }
+    {
         if self.pending.has(id) {
             Some(self.engine.copies().complete(CopyId(id))?.taken())
         } else {
@@ -62,11 +82,13 @@ impl<F: Folder, S: PageStore, D: LogDevice + TellsWhy> Session<'_, F, S, D> {
 
     /// Puts the file of a complete copy in place, and answers this, if it is there.
     fn place_sealed(&mut self, id: u32, answer: Answer) -> Said
-        requires { F.is_claimed self.old.folder }
+        requires claimed { F.is_claimed self.old.folder }
+        requires waits { Waits self.old.pending id }
         ensures says { IsAnswerOr answer result }
         ensures put { IsAnswer result → WasPut (name_of (saved.Copy id))
             (bytes_by (WritesCopy self.new.engine.state.copies id)) (F.entries self.new.folder) }
         ensures stored { IsAnswer result → F.is_stored self.new.folder }
+        ensures waits { WaitsUnlessPlaced id result self.new.pending }
         ensures engine { self.new.engine ≡ self.old.engine }
         ensures claimed { F.is_claimed self.new.folder }
     {
@@ -85,19 +107,35 @@ impl<F: Folder, S: PageStore, D: LogDevice + TellsWhy> Session<'_, F, S, D> {
 
     /// Puts a copy that is complete in place. What has its name before gets another one.
     fn keep_copy(&mut self, id: u32) -> Result<(), FileFault>
-        requires { F.is_claimed self.old.folder }
+        requires claimed { F.is_claimed self.old.folder }
+        requires waits { Waits self.old.pending id }
         ensures put { OnOk result (WasPut (name_of (saved.Copy id))
             (bytes_by (WritesCopy self.new.engine.state.copies id)) (F.entries self.new.folder)) }
         ensures stored { OnOk result (F.is_stored self.new.folder) }
+        ensures waits { Waits self.new.pending id }
         ensures engine { self.new.engine ≡ self.old.engine }
         ensures claimed { F.is_claimed self.new.folder }
     {
         if !self.pending.is_alone(id) {
-            if move_copy_aside(&self.teller, &mut self.folder, CopyId(id)).is_err() {
-                return Err(FileFault::WriteFault(0));
+            match move_copy_aside(&self.teller, &mut self.folder, CopyId(id)) {
+                Ok(name) => self.pending.free(name),
+                Err(_) => return Err(FileFault::WriteFault(0)),
             }
-            self.pending.free(id);
         }
+        self.put_copy(id)
+    }
+
+    /// Puts a copy that is complete in place, whose name nothing else has.
+    fn put_copy(&mut self, id: u32) -> Result<(), FileFault>
+        requires claimed { F.is_claimed self.old.folder }
+        requires free { WaitsFree self.old.pending id }
+        ensures put { OnOk result (WasPut (name_of (saved.Copy id))
+            (bytes_by (WritesCopy self.new.engine.state.copies id)) (F.entries self.new.folder)) }
+        ensures stored { OnOk result (F.is_stored self.new.folder) }
+        ensures pending { self.new.pending ≡ self.old.pending }
+        ensures engine { self.new.engine ≡ self.old.engine }
+        ensures claimed { F.is_claimed self.new.folder }
+    {
         match place_copy(&mut self.folder, self.alloc, &self.engine, CopyId(id)) {
             Ok(()) => Ok(()),
             Err(PutFault::Unwritten(CopyWriteFault::Archive(why))) => Err(FileFault::from(why)),
@@ -110,7 +148,7 @@ impl<F: Folder, S: PageStore, D: LogDevice + TellsWhy> Session<'_, F, S, D> {
     /// record of the last one is not in place, that is tried again.
     pub(crate) fn end_checkpoint(&mut self) -> Said
         requires { F.is_claimed self.old.folder }
-        ensures says { SaysOf self.old.engine.state event.CkptEnd refusal.NoCkpt result
+        ensures says { StepsAndSays self.old.engine.state event.CkptEnd refusal.NoCkpt result
             self.new.engine.state }
         // Where a checkpoint is answered, its master record is in place, and its name lasts.
         ensures put { IfPoint result (λ begin end. WasPut (name_of saved.Master)
@@ -180,8 +218,12 @@ impl<F: Folder, S: PageStore, D: LogDevice + TellsWhy> Session<'_, F, S, D> {
 
     /// Begins an incremental copy. None stands on a copy whose file is not in place.
     pub(crate) fn begin_increment(&mut self, parent: u32) -> Said
-        ensures only { OnlyCopies self.old.engine.state self.new.engine.state }
+        ensures made { Makes (event.CopyInc parent) self.old.engine.state result
+            self.new.engine.state }
         ensures given { IsCopy result (λ id. ¬ Contains self.old.unread.items id) }
+        ensures refused { Waits self.old.pending parent
+            → result ≡ Said.Reply (Err refusal.CopyNotComplete) }
+        ensures same { Waits self.old.pending parent → self.new.engine ≡ self.old.engine }
         ensures folder { self.new.folder ≡ self.old.folder }
     {
         if self.pending.has(parent) {
@@ -193,7 +235,8 @@ impl<F: Folder, S: PageStore, D: LogDevice + TellsWhy> Session<'_, F, S, D> {
     /// Begins a copy: a full one, or an incremental one on this parent. The ids of files that could
     /// not be read are passed over: such a copy is dropped at once.
     pub(crate) fn begin_copy(&mut self, parent: Option<u32>) -> Said
-        ensures only { OnlyCopies self.old.engine.state self.new.engine.state }
+        ensures made { Makes (copy_call parent) self.old.engine.state result
+            self.new.engine.state }
         ensures given { IsCopy result (λ id. ¬ Contains self.old.unread.items id) }
         ensures folder { self.new.folder ≡ self.old.folder }
     {
@@ -212,9 +255,8 @@ impl<F: Folder, S: PageStore, D: LogDevice + TellsWhy> Session<'_, F, S, D> {
 
     /// Makes the call that begins a copy.
     fn begun(&mut self, parent: Option<u32>) -> Reply
-        ensures step { MatchOption parent
-            (Step self.old.engine.state event.CopyFull result self.new.engine.state)
-            (λ id. Step self.old.engine.state (event.CopyInc id) result self.new.engine.state) }
+        ensures step { Step self.old.engine.state (copy_call parent) result
+            self.new.engine.state }
         ensures unread { self.new.unread ≡ self.old.unread }
         ensures folder { self.new.folder ≡ self.old.folder }
     {

@@ -1,16 +1,21 @@
 //! Opens a database in a folder, and answers the lines of standard input.
 
-ghost use Rattle.std.specs.Prelude.{IfSome};
+ghost use Rattle.std.specs.Prelude.{ℕ, ◌≡◌, IfOk, IfSome, List, Option, Some};
 ghost use Rattle.buffer_pool.specs.Pool.{IsFrameCount};
 ghost use Rattle.log_records.specs.Log.{IsPageCount};
+ghost use Rattle.volume_folder.specs.Calls.{Lives};
+ghost use Rattle.volume_folder.specs.Opened.{Begins, IsNew};
+ghost use Rattle.volume_folder.specs.Session.{LivesByLines, ServesLines};
+ghost use Rattle.volume_folder.specs.declared.log_file.LogFile.{LogFile};
 
 use crate::begin::begin;
+use crate::claims_soon::ClaimsSoon;
 use crate::fault::OpenFault;
 use crate::file_limit::low_limit;
 use crate::first_line::FirstLine;
 use crate::inventory::Inventory;
 use crate::line_reader::LineReader;
-use crate::log_file::{LogFile, open_log};
+use crate::log_file::{LogFile, of_log, open_log};
 use crate::pending::Pending;
 use crate::place::Place;
 use crate::restarted::{Reopened, reopen};
@@ -74,10 +79,20 @@ pub fn open_folder<R: Threads + Sync>(rt: &HostRuntime, threads: &R, call: &Open
         rt,
         folder: call.folder,
     };
+    let Ok(pending) = Pending::new(rt.alloc()) else {
+        teller.tell_fault(&OpenFault::OutOfMemory, &notes);
+        return OpenEnd::Failed;
+    };
     let mut folder = SystemFolder::new(rt, rt.alloc(), call.folder, &notes);
-    let opened = opened(&teller, threads, &mut folder, call, &store_notes);
-    match opened {
-        Ok(opened) => served(&teller, folder, (&notes, &store_notes), opened, call),
+    match opened(&teller, threads, &mut folder, call, &store_notes) {
+        Ok(opened) => served(
+            &teller,
+            folder,
+            (&notes, &store_notes),
+            opened,
+            pending,
+            call,
+        ),
         Err(fault) => {
             teller.tell_fault(&fault, &notes);
             OpenEnd::Failed
@@ -95,34 +110,59 @@ fn held(rt: &HostRuntime) -> [io::Result<File>; 3] {
 }
 
 /// Claims the folder and opens the database in it.
-fn opened<'a, R: Threads + Sync>(
+fn opened<'a, F: ClaimsSoon, R: Threads + Sync>(
     teller: &Teller<'_>,
     threads: &R,
-    folder: &mut SystemFolder<'_>,
+    folder: &mut F,
     call: &OpenCall<'_>,
     notes: &'a Notes,
 ) -> Result<Reopened<'a>, OpenFault>
     requires pages { IfSome call.now.pages IsPageCount }
     requires frames { IsFrameCount call.now.frames }
+    ensures begins { IfOk result (λ it. (log : Option LogFile) × (ids : List ℕ)
+        × Begins log ids call.now.pages call.now.frames it.engine.state) }
+    ensures claimed { IfOk result (λ _. F.is_claimed folder.new) }
 {
     if let Some(most) = low_limit(teller.rt)? {
         return Err(OpenFault::SmallFiles(most));
     }
-    folder.claim_soon()?;
+    folder.claim_or_wait()?;
     let there = Inventory::of(teller.rt, call.folder)?;
-    match open_log(teller.rt, call.folder)? {
-        LogFile::Written(file, len) => {
-            reopen(teller, threads, folder, call, (file, len), &there, notes)
-        }
-        LogFile::Headless(file) => begun(teller, folder, call, Some(file), &there, notes),
-        LogFile::Absent => begun(teller, folder, call, None, &there, notes),
+    let log = open_log(teller.rt, call.folder)?;
+    open_from(teller, threads, folder, call, log, &there, notes)
+}
+
+/// Opens the database whose log has this file, or makes a new one where that never had a header.
+fn open_from<'a, F: Folder, R: Threads + Sync>(
+    teller: &Teller<'_>,
+    threads: &R,
+    folder: &mut F,
+    call: &OpenCall<'_>,
+    log: Option<LogFile>,
+    there: &Inventory,
+    notes: &'a Notes,
+) -> Result<Reopened<'a>, OpenFault>
+    requires pages { IfSome call.now.pages IsPageCount }
+    requires frames { IsFrameCount call.now.frames }
+    requires claimed { F.is_claimed folder.old }
+    ensures begins { IfOk result (λ it. Begins log there.now.copies.items call.now.pages
+        call.now.frames it.engine.state) }
+    ensures claimed { F.is_claimed folder.new }
+{
+    let Some(log) = log else {
+        return begun(teller, folder, call, None, there, notes);
+    };
+    match log.is_headless() {
+        Ok(true) => begun(teller, folder, call, Some(log.file), there, notes),
+        Ok(false) => reopen(teller, threads, folder, call, log, there, notes),
+        Err(error) => Err(of_log(error)),
     }
 }
 
 /// Makes a new database in a folder that is empty, or in which one was not made to its end.
-fn begun<'a>(
+fn begun<'a, F: Folder>(
     teller: &Teller<'_>,
-    folder: &mut SystemFolder<'_>,
+    folder: &mut F,
     call: &OpenCall<'_>,
     log: Option<File>,
     there: &Inventory,
@@ -130,30 +170,48 @@ fn begun<'a>(
 ) -> Result<Reopened<'a>, OpenFault>
     requires pages { IfSome call.now.pages IsPageCount }
     requires frames { IsFrameCount call.now.frames }
+    requires claimed { F.is_claimed folder.old }
+    ensures new { IfOk result (λ it. IsNew call.now.pages call.now.frames it.engine.state) }
+    // The names of the log and of the volume last.
+    ensures stored { IfOk result (λ _. F.is_stored folder.new) }
+    ensures claimed { F.is_claimed folder.new }
 {
-    let alloc = teller.rt.alloc();
+    let pages = count_of_new(teller, call, there)?;
+    let setup = Setup {
+        pages,
+        frames: call.frames,
+    };
+    let engine = begin(teller.rt, folder, call.folder, log, setup, notes)?;
+    Ok(Reopened {
+        engine,
+        first: FirstLine::New(pages),
+        point: None,
+        is_master_wrong: false,
+        unread: Vec::new(teller.rt.alloc()),
+    })
+}
+
+/// How many pages a new database is to have, where one may be made in this folder. What an older
+/// life left unfinished there is removed.
+fn count_of_new(
+    teller: &Teller<'_>,
+    call: &OpenCall<'_>,
+    there: &Inventory,
+) -> Result<u32, OpenFault>
+    ensures { IfOk result (λ pages. call.now.pages ≡ Some pages) }
+{
     if let Some(place) = there.widow() {
         return Err(OpenFault::LogLost(place));
     }
     if let Some(name) = &there.stranger {
-        return Err(OpenFault::Stranger(String::from_str(alloc, name)?));
+        return Err(OpenFault::Stranger(String::from_str(teller.rt.alloc(), name)?));
     }
     let Some(pages) = call.pages else {
         return Err(OpenFault::NoCount);
     };
     check_volume(teller.rt, call.folder)?;
     there.clear(teller.rt)?;
-    let setup = Setup {
-        pages,
-        frames: call.frames,
-    };
-    Ok(Reopened {
-        engine: begin(teller.rt, folder, call.folder, log, setup, notes)?,
-        first: FirstLine::New(pages),
-        point: None,
-        is_master_wrong: false,
-        unread: Vec::new(alloc),
-    })
+    Ok(pages)
 }
 
 /// Answers the lines of standard input.
@@ -162,13 +220,9 @@ fn served<'a>(
     folder: SystemFolder<'a>,
     notes: (&'a Notes, &'a Notes),
     opened: Reopened<'a>,
+    pending: Pending,
     call: &OpenCall<'_>,
 ) -> OpenEnd {
-    let alloc = teller.rt.alloc();
-    let Ok(pending) = Pending::new(alloc) else {
-        teller.tell_fault(&OpenFault::OutOfMemory, notes.0);
-        return OpenEnd::Failed;
-    };
     let Reopened {
         engine,
         first,
@@ -177,7 +231,7 @@ fn served<'a>(
         unread,
     } = opened;
     let mut session = Session {
-        alloc,
+        alloc: teller.rt.alloc(),
         engine,
         folder,
         teller: *teller,
@@ -198,20 +252,25 @@ fn served<'a>(
 type FileSession<'a> = Session<'a, SystemFolder<'a>, ToldStore<'a>, FileLog>;
 
 /// Puts the master record in place, answers all lines, and closes the database.
-fn live(session: &mut FileSession<'_>, first: FirstLine, point: Option<Point>) {
+fn live(session: &mut FileSession<'_>, first: FirstLine, point: Option<Point>)
+    ensures lives { Lives session.old.engine.state session.new.engine.state }
+    // The calls are those of the lines, and those of a closing.
+    ensures lines { LivesByLines session.old.engine.state session.new.engine.state }
+{
     let (input, output) = (Notes::new(), Notes::new());
-    if let Some(point) = point {
-        put_point(session, point);
-    }
-    if let Err(fault) = serve_all(session, first, &input, &output) {
-        session.has_failed = true;
-        session.teller.tell_ended(&fault, &input, &output);
-    }
+    put_point(session, point);
+    let served = serve_all(session, first, &input, &output);
+    note_served(session, served, &input, &output);
     session.close();
 }
 
-/// Puts the master record of the log's last checkpoint in place.
-fn put_point(session: &mut FileSession<'_>, point: Point) {
+/// Puts the master record of the log's last checkpoint in place, if it is not there.
+fn put_point(session: &mut FileSession<'_>, point: Option<Point>)
+    ensures { session.new.engine ≡ session.old.engine }
+{
+    let Some(point) = point else {
+        return;
+    };
     let unplaced = UnplacedPoint {
         begin: point.begin.0,
         end: point.end.0,
@@ -229,7 +288,9 @@ fn serve_all(
     first: FirstLine,
     input: &Notes,
     output: &Notes,
-) -> Result<(), ServeFault> {
+) -> Result<(), ServeFault>
+    ensures { ServesLines session.old.engine.state session.new.engine.state }
+{
     let rt = session.teller.rt;
     let reader = Patient {
         stream: Noted {
@@ -248,6 +309,21 @@ fn serve_all(
     let mut lines = LineReader::new(rt.alloc(), reader)?;
     write_first(session, first, &mut writer)?;
     session.serve(&mut lines, &mut writer)
+}
+
+/// Takes note of lines that came to an end before the input did, and tells why.
+fn note_served(
+    session: &mut FileSession<'_>,
+    served: Result<(), ServeFault>,
+    input: &Notes,
+    output: &Notes,
+)
+    ensures { session.new.engine ≡ session.old.engine }
+{
+    if let Err(fault) = served {
+        session.has_failed = true;
+        session.teller.tell_ended(&fault, input, output);
+    }
 }
 
 fn write_first<W: Write>(

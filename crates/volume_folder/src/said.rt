@@ -2,7 +2,8 @@
 
 ghost use Rattle.std.specs.Prelude.{IfErr, OnOk};
 ghost use Rattle.std.specs.Io.KnownBytes.{Appends};
-ghost use Rattle.volume_folder.specs.Session.{LeavesLine, said_line};
+ghost use Rattle.volume_folder.specs.Said.{said_line};
+ghost use Rattle.volume_folder.specs.Session.{LeavesLine};
 
 use crate::session::ServeFault;
 use aries_core::{Refusal, Reply};
@@ -42,7 +43,7 @@ impl Said {
 
 impl fmt::Display for Said {
     ghost use Rattle.std.specs.Prelude.{Some};
-    ghost use Rattle.volume_folder.specs.Session.{line_of_said};
+    ghost use Rattle.volume_folder.specs.Said.{line_of_said};
 
     ghost output = { λ said. Some (line_of_said said) };
 

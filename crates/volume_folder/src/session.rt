@@ -1,12 +1,14 @@
 //! The lines of an open database: each is a call of its engine, and is answered at once.
 
-ghost use Rattle.std.specs.Prelude.{◌≡◌, IfErr, OnOk, Result};
-ghost use Rattle.engine_calls.specs.declared.event.Answer.{Answer};
-ghost use Rattle.engine_calls.specs.declared.refusal.Refusal.{Refusal};
-ghost use Rattle.engine_rules.specs.Step.{Step};
-ghost use Rattle.volume_folder.specs.Session.{Answers, IsPlain, LeavesAnswer};
+ghost use Rattle.std.specs.Prelude.{◌≡◌, IfErr, IfOk, OnOk};
+ghost use Rattle.volume_folder.specs.Calls.{Makes};
+ghost use Rattle.volume_folder.specs.MadeFiles.{IsGiven, IsInPlace, IsStoredFor, StandsOnPlaced};
+ghost use Rattle.volume_folder.specs.MadeFiles.{WaitsFor};
+ghost use Rattle.volume_folder.specs.Session.{Answers, LeavesAnswer, LeavesBad, LeavesServed};
+ghost use Rattle.volume_folder.specs.Session.{LeavesTaken, Says, Serves, Takes, WritesBad};
 
 use crate::bad_call::{BadCall, LineTrouble};
+use crate::call_kind::CallKind;
 use crate::line_reader::{LineReader, NextLine};
 use crate::pending::Pending;
 use crate::place::Place;
@@ -15,7 +17,6 @@ use crate::tally::Tally;
 use crate::told::Teller;
 use crate::unplaced_point::UnplacedPoint;
 use aries_core::{Engine, Event, Refusal};
-use copy_vault::CopyId;
 use event_script::{ScriptFault, read_script};
 use log_store::LogDevice;
 use page_core::write_out;
@@ -80,7 +81,9 @@ pub(crate) struct Session<'a, F: Folder, S: PageStore, D: LogDevice> {
 }
 
 /// What a line says: a call, or nothing.
-fn said_in(alloc: Global, line: &[u8]) -> Result<Result<Option<Event>, LineTrouble>, AllocError> {
+fn said_in(alloc: Global, line: &[u8]) -> Result<Result<Option<Event>, LineTrouble>, AllocError>
+    ensures { IfOk result (λ it. IfOk it (Says line.now)) }
+{
     let mut bytes = line;
     Ok(match read_script(alloc, &mut bytes) {
         Ok(script) if script.restore.is_some() => Err(LineTrouble::Restore),
@@ -96,10 +99,36 @@ fn said_in(alloc: Global, line: &[u8]) -> Result<Result<Option<Event>, LineTroub
 fn said_unended(
     alloc: Global,
     line: &[u8],
-) -> Result<Result<Option<Event>, LineTrouble>, AllocError> {
+) -> Result<Result<Option<Event>, LineTrouble>, AllocError>
+    ensures { IfOk result (λ it. IfOk it (Says line.now)) }
+{
     match said_in(alloc, line)? {
         Ok(None) => Ok(Ok(None)),
         _ => Ok(Err(LineTrouble::Unended)),
+    }
+}
+
+/// Writes that a line is no call, and why.
+fn write_bad<W: Write>(
+    alloc: Global,
+    number: u64,
+    bad: &BadCall<'_>,
+    writer: &mut W,
+) -> Result<(), ServeFault>
+    ensures written { OnOk result
+        (WritesBad number (W.contents writer.old) (W.contents writer.new)) }
+    ensures left { IfErr result
+        (LeavesBad number (W.contents writer.old) (W.contents writer.new)) }
+{
+    let Ok(why) = format!(in alloc; "{bad}") else {
+        return Err(ServeFault::OutOfMemory);
+    };
+    let Ok(text) = format!(in alloc; "bad line {number}: {why}\n") else {
+        return Err(ServeFault::OutOfMemory);
+    };
+    match write_out(writer, text.as_bytes()) {
+        Ok(()) => Ok(()),
+        Err(done) => Err(ServeFault::WriteFault(done)),
     }
 }
 
@@ -112,7 +141,11 @@ impl<F: Folder, S: PageStore, D: LogDevice + TellsWhy> Session<'_, F, S, D> {
         writer: &mut W,
     ) -> Result<(), ServeFault>
         requires { F.is_claimed self.old.folder }
-        ensures { F.is_claimed self.new.folder }
+        ensures served { OnOk result (Serves self.old.engine.state self.new.engine.state
+            (W.contents writer.old) (W.contents writer.new)) }
+        ensures left { IfErr result (LeavesServed self.old.engine.state self.new.engine.state
+            (W.contents writer.old) (W.contents writer.new)) }
+        ensures claimed { F.is_claimed self.new.folder }
     {
         for number in 1..u64::MAX {
             match lines.next_line() {
@@ -142,7 +175,14 @@ impl<F: Folder, S: PageStore, D: LogDevice + TellsWhy> Session<'_, F, S, D> {
         said: Result<Option<Event>, LineTrouble>,
         writer: &mut W,
     ) -> Result<(), ServeFault>
-        requires { F.is_claimed self.old.folder }
+        requires claimed { F.is_claimed self.old.folder }
+        requires says { IfOk said (Says line.now) }
+        ensures taken { OnOk result (Takes number said self.old.engine.state
+            self.new.engine.state (F.entries self.new.folder) (F.is_stored self.new.folder)
+            (W.contents writer.old) (W.contents writer.new)) }
+        ensures left { IfErr result (LeavesTaken number said self.old.engine.state
+            self.new.engine.state (F.entries self.new.folder) (F.is_stored self.new.folder)
+            (W.contents writer.old) (W.contents writer.new)) }
         ensures claimed { F.is_claimed self.new.folder }
     {
         match said {
@@ -159,16 +199,16 @@ impl<F: Folder, S: PageStore, D: LogDevice + TellsWhy> Session<'_, F, S, D> {
         bad: &BadCall<'_>,
         writer: &mut W,
     ) -> Result<(), ServeFault>
+        ensures written { OnOk result
+            (WritesBad number (W.contents writer.old) (W.contents writer.new)) }
+        ensures left { IfErr result
+            (LeavesBad number (W.contents writer.old) (W.contents writer.new)) }
         ensures engine { self.new.engine ≡ self.old.engine }
         ensures folder { self.new.folder ≡ self.old.folder }
     {
         self.tally.note(number, true);
         let _ = eprintln!(self.teller.rt; "imgcopy: line {number}: {bad}");
-        let text = format!(in self.alloc; "bad line {number}: {bad}\n")?;
-        match write_out(writer, text.as_bytes()) {
-            Ok(()) => Ok(()),
-            Err(done) => Err(ServeFault::WriteFault(done)),
-        }
+        write_bad(self.alloc, number, bad, writer)
     }
 
     /// Makes a call, puts in place what it made, and then writes its reply.
@@ -179,10 +219,12 @@ impl<F: Folder, S: PageStore, D: LogDevice + TellsWhy> Session<'_, F, S, D> {
         writer: &mut W,
     ) -> Result<(), ServeFault>
         requires { F.is_claimed self.old.folder }
-        ensures answered { OnOk result (IsPlain event → Answers self.old.engine event
-            self.new.engine (W.contents writer.old) (W.contents writer.new)) }
-        ensures err { IfErr result (λ fault. IsPlain event → LeavesAnswer self.old.engine event
-            self.new.engine (W.contents writer.old) (W.contents writer.new) fault) }
+        ensures answered { OnOk result (Answers event self.old.engine.state
+            self.new.engine.state (F.entries self.new.folder) (F.is_stored self.new.folder)
+            (W.contents writer.old) (W.contents writer.new)) }
+        ensures left { IfErr result (LeavesAnswer event self.old.engine.state
+            self.new.engine.state (F.entries self.new.folder) (F.is_stored self.new.folder)
+            (W.contents writer.old) (W.contents writer.new)) }
         ensures claimed { F.is_claimed self.new.folder }
     {
         let said = self.made(event);
@@ -193,17 +235,23 @@ impl<F: Folder, S: PageStore, D: LogDevice + TellsWhy> Session<'_, F, S, D> {
     /// Makes a call, and puts in place what it made.
     fn made(&mut self, event: Event) -> Said
         requires { F.is_claimed self.old.folder }
-        ensures plain { IsPlain event → (reply : Result Answer Refusal)
-            × Step self.old.engine.state event reply self.new.engine.state
-            × (result ≡ Said.Reply reply) }
+        ensures made { Makes event self.old.engine.state result self.new.engine.state }
+        // Where what is said tells of a file, it is in place.
+        ensures in_place { IsInPlace event result self.new.engine.state
+            (F.entries self.new.folder) }
+        ensures stored { IsStoredFor event result (F.is_stored self.new.folder) }
+        // Where it is not, its copy waits for it, and no copy stands on that one.
+        ensures waits { WaitsFor event result self.new.pending }
+        ensures stands { StandsOnPlaced event result self.old.pending }
+        ensures given { IsGiven event result self.old.unread.items }
         ensures claimed { F.is_claimed self.new.folder }
     {
-        match event {
-            Event::Seal(CopyId(id)) => self.seal(id),
-            Event::CkptEnd => self.end_checkpoint(),
-            Event::CopyFull => self.begin_copy(None),
-            Event::CopyInc(CopyId(parent)) => self.begin_increment(parent),
-            _ => Said::Reply(self.engine.apply(event)),
+        match CallKind::of(&event) {
+            CallKind::Seals(id) => self.seal(id),
+            CallKind::EndsCheckpoint => self.end_checkpoint(),
+            CallKind::BeginsCopy(None) => self.begin_copy(None),
+            CallKind::BeginsCopy(Some(parent)) => self.begin_increment(parent),
+            CallKind::Plain => Said::Reply(self.engine.apply(event)),
         }
     }
 

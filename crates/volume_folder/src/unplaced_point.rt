@@ -1,7 +1,7 @@
 //! A checkpoint whose master record is not in place.
 
 ghost use Rattle.std.specs.Prelude.{◌≡◌};
-ghost use Rattle.volume_folder.specs.Session.{answer_of};
+ghost use Rattle.volume_folder.specs.MadeFiles.{answer_of};
 
 use aries_core::Answer;
 use log_store::Master;

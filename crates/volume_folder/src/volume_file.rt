@@ -8,6 +8,7 @@ use crate::place::Place;
 use crate::told_store::ToldStore;
 use file_devices::FileStore;
 use page_store::MemStore;
+use saved_files::Folder;
 use std::fs::{File, Metadata};
 use std::io::ErrorKind;
 use std::os::unix::fs::{FileExt, MetadataExt};
@@ -93,14 +94,18 @@ fn is_same(one: &Metadata, other: &Metadata) -> bool {
     one.dev() == other.dev() && one.ino() == other.ino()
 }
 
-/// Makes a volume of these pages in a folder. What its file had is gone.
-pub(crate) fn volume_of<'a>(
+/// Makes a volume of these pages in a folder. What its file had is gone, and its name need not last
+/// yet.
+pub(crate) fn volume_of<'a, F: Folder>(
     files: &HostRuntime,
+    _folder: &mut F,
     name: &str,
     pages: MemStore,
     notes: &'a Notes,
 ) -> Result<ToldStore<'a>, OpenFault>
-    ensures { IfOk result (λ store. store.store.pages ≡ pages) }
+    requires { F.is_claimed _folder.old }
+    ensures pages { IfOk result (λ store. store.store.pages ≡ pages) }
+    ensures claimed { F.is_claimed _folder.new }
 {
     let path = Path::new(name).join(files.alloc(), VOLUME)?;
     let file = volume_file(files, &path)?;

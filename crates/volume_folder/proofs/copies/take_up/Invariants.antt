@@ -1,5 +1,11 @@
 use Rattle.std.proofs.Common.{◌≡◌}
+use Rattle.volume_folder.specs.Copies.{TakesUp, ids_unread}
 use Rattle.volume_folder.proofs.copies.take_up.Given as goal
 
-abbrev pub invariant-loop-id : goal.invariant-loop-id
-invariant-loop-id l = (l.restarted.log ≡ l.initial.restarted.log) × (l.restarted.pages ≡ l.initial.restarted.pages)
+abbrev pub invariant-loop-file : goal.invariant-loop-file
+invariant-loop-file l = record {
+  log : l.restarted.log ≡ l.initial.restarted.log;
+  pages : l.restarted.pages ≡ l.initial.restarted.pages;
+  taken : TakesUp l.initial.restarted l.yielded l.restarted;
+  unread : l.unread.items ≡ ids_unread l.yielded;
+}

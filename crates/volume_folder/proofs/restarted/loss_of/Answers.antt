@@ -20,8 +20,8 @@ returns c =
     let c2 = c.hear_master.new.self.claims.items in
     let c3 = c.hear_copies.new.self.claims.items in
     let c4 = c.look_behind.new.self.claims.items in
-    heard_all (end_of remains.log.log) e0 e1 e2 e3 c0 c1 c2 c3 c4 remains.note (spelled remains.master)
-    remains.copies.items remains.log.bytes.items
+    heard_all (end_of remains.log.log) e0 e1 e2 e3 c0 c1 c2 c3 c4 remains.others.note (spelled remains.others.master)
+    remains.others.copies.items remains.log.bytes.items
     (c.new-loss.ensures.end ∙ c.end.ensures)
     c.hear_note.ensures.end c.hear_master.ensures.end c.hear_copies.ensures.end
     c.in_ok-hear_note.ensures.heard

@@ -1,35 +1,47 @@
 use Rattle.std.proofs.Common.{refl, subst, sym, ◌∙◌}
-use Rattle.volume_folder.specs.Session.{OnlyCopies, none, drop}
-use Rattle.volume_folder.proofs.CopyCalls.{one_begun}
+use Rattle.std.specs.Prelude.{Err, Result}
+use Rattle.engine_calls.specs.declared.event.Answer.{Answer}
+use Rattle.engine_calls.specs.declared.refusal.Refusal.{Refusal}
+use Rattle.engine_calls.specs.declared.refusal.Refusal.TheVariants.{TooManyCopies}
+use Rattle.engine_rules.specs.Step.{Step}
+use Rattle.volume_folder.proofs.CopyCalls.{begins_last, begins_none, passed_more, passed_none}
+use Rattle.volume_folder.specs.Calls.{Makes, copy_call}
+use Rattle.volume_folder.specs.declared.said.Said.TheVariants.{Reply}
 use Rattle.volume_folder.proofs.session.Session.begin_copy.Goals as goal
 use Rattle.volume_folder.proofs.session.Session.begin_copy.Goals.{else-loop-test, then-loop-test+in-Some+else-counter-end}
 
 pub loop-init : goal.loop-init
-loop-init g c = (none, refl, refl)
+loop-init g c = (passed_none c.args.parent c.args.self.now.engine.state, refl, refl)
 
-pub returns-in_default-clause-only : goal.returns-in_default-clause-only
-returns-in_default-clause-only g c =
-    one_begun c.args.self.now.engine.state c.loop.self.engine.state c.begun-reply.new.self.engine.state c.args.parent
+pub returns-in_default-clause-made : goal.returns-in_default-clause-made
+returns-in_default-clause-made g c =
+    begins_last c.args.parent c.args.self.now.engine.state c.loop.self.engine.state c.begun-reply.new.self.engine.state
     c.begun-reply.result c.loop.invariant.0 c.begun-reply.ensures.step
 
 pub loop-preserved : goal.loop-preserved
 loop-preserved g c = (
-  drop c.begun-reply.new.self.engine.state c.apply.new.self.state c.in-Some.id c.apply.result
-      (one_begun c.args.self.now.engine.state c.loop.self.engine.state c.begun-reply.new.self.engine.state c.args.parent
-      c.begun-reply.result c.loop.invariant.0 c.begun-reply.ensures.step)
+  passed_more c.args.parent c.args.self.now.engine.state c.loop.self.engine.state
+      c.begun-reply.new.self.engine.state c.apply.new.self.state c.in-Some.id c.apply.result c.loop.invariant.0
+      (subst (λ (r : Result Answer Refusal). Step c.loop.self.engine.state (copy_call c.args.parent) r
+      c.begun-reply.new.self.engine.state) c.in-Some.ensures.found c.begun-reply.ensures.step)
       c.apply.ensures.step,
   (c.begun-reply.ensures.folder ∙ c.loop.invariant.1),
   (c.begun-reply.ensures.unread ∙ c.loop.invariant.2),
 )
 
-pub returns-clause-only : goal.returns-clause-only
-returns-clause-only g c = elim c.loop-test.branch [
+pub returns-clause-made : goal.returns-clause-made
+returns-clause-made g c = elim c.loop-test.branch [
   | else-loop-test w ↦
-      subst (λ s. OnlyCopies c.args.self.now.engine.state s.engine.state) (sym w.self-is) c.loop.invariant.0
+      subst (λ s. Makes (copy_call c.args.parent) c.args.self.now.engine.state (Reply (Err TooManyCopies)) s.engine.state)
+      (sym w.self-is)
+      (begins_none c.args.parent c.args.self.now.engine.state c.loop.self.engine.state c.loop.invariant.0)
   | then-loop-test+in-Some+else-counter-end w ↦
-      subst (λ s. OnlyCopies c.args.self.now.engine.state s.engine.state) (sym w.self-is)
-      (drop w.begun-reply.new.self.engine.state w.apply.new.self.state w.in-Some.id w.apply.result
-      (one_begun c.args.self.now.engine.state c.loop.self.engine.state w.begun-reply.new.self.engine.state
-      c.args.parent w.begun-reply.result c.loop.invariant.0 w.begun-reply.ensures.step)
-      w.apply.ensures.step)
+      subst (λ s. Makes (copy_call c.args.parent) c.args.self.now.engine.state (Reply (Err TooManyCopies)) s.engine.state)
+      (sym w.self-is)
+      (begins_none c.args.parent c.args.self.now.engine.state w.apply.new.self.state
+      (passed_more c.args.parent c.args.self.now.engine.state c.loop.self.engine.state
+      w.begun-reply.new.self.engine.state w.apply.new.self.state w.in-Some.id w.apply.result c.loop.invariant.0
+      (subst (λ (r : Result Answer Refusal). Step c.loop.self.engine.state (copy_call c.args.parent) r
+      w.begun-reply.new.self.engine.state) w.in-Some.ensures.found w.begun-reply.ensures.step)
+      w.apply.ensures.step))
 ]

@@ -1,5 +1,5 @@
-use Rattle.volume_folder.specs.Session.{none}
+use Rattle.volume_folder.proofs.CopyCalls.{parent_waits}
 use Rattle.volume_folder.proofs.session.Session.begin_increment.Goals as goal
 
-pub returns-then-has-clause-only : goal.returns-then-has-clause-only
-returns-then-has-clause-only g c = none
+pub returns-then-has-clause-made : goal.returns-then-has-clause-made
+returns-then-has-clause-made g c = parent_waits c.args.parent c.args.self.now.engine.state
