@@ -93,8 +93,7 @@ ifeq ($(GIVEN),)
 	@cat build/copies.md
 	@python3 bench/sessions.py build/bench_copies $(BENCH_PROGRAMS)/plain_sessions $(ROUNDS) > build/sessions.md
 	@cat build/sessions.md
-	@tools/build.sh bench_commits
-	@python3 bench/commits.py build/bench_commits $(ROUNDS) > build/commits.md
+	@python3 bench/commits.py build/bench_copies $(ROUNDS) > build/commits.md
 	@cat build/commits.md
 endif
 

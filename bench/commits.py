@@ -3,7 +3,7 @@
 
 usage: commits.py PROGRAM ROUNDS [FOLDER..]
 
-PROGRAM is that of the crate bench_commits. In each FOLDER (by default build, and /dev/shm where it is there) one session
+PROGRAM is that of the crate bench_copies. In each FOLDER (by default build, and /dev/shm where it is there) one session
 and eight make small transactions, in turns with as many processes of sqlite3, in WAL mode with synchronous=FULL, each of
 which changes one row of a table of two integers. The best of ROUNDS runs is told. README.md says more.
 """
@@ -19,19 +19,24 @@ import time
 from run import Failure, find_program
 
 SESSIONS = (1, 8)
-# How many commits are measured in all: a sync takes some milliseconds on a disk, and next to nothing in memory.
-ON_DISK, IN_MEMORY = 800, 16_000
+# How many milliseconds the sessions are measured, and how many commits of SQLite in all: a sync takes some milliseconds
+# on a disk, and next to nothing in memory.
+ON_DISK, IN_MEMORY = (2_000, 800), (200, 16_000)
+# A volume with a page for each session and no copy. A transaction of one change and no read has three calls.
+PAGES, WORKERS, CHANGES, READS, CALLS = 64, 0, 1, 0, 3
 COLUMNS = ["folder", "sessions", "imgcopy, commits a second", "SQLite, commits a second", "ratio"]
 SETUP = "PRAGMA journal_mode=WAL; CREATE TABLE t(a INTEGER PRIMARY KEY, b INTEGER);"
 
 
-def by_imgcopy(program, folder, sessions, commits):
+def by_imgcopy(program, folder, sessions, milliseconds):
     """Commits a second."""
-    log = os.path.join(folder, "log")
-    done = subprocess.run([program, log, str(sessions), str(commits // sessions)], capture_output=True, text=True)
+    numbers = PAGES, WORKERS, sessions, CHANGES, READS
+    words = [program, *map(str, numbers), os.path.join(folder, "log"), str(milliseconds)]
+    done = subprocess.run(words, capture_output=True, text=True)
     if done.returncode != 0:
         raise Failure(f"{sessions} sessions: status {done.returncode}, standard error {done.stderr[:80]!r}")
-    return commits / (int(done.stderr) / 1e9)
+    nanoseconds, calls = map(int, done.stderr.split())
+    return 1e9 * calls / CALLS / nanoseconds
 
 
 def by_sqlite(folder, sessions, commits):
@@ -62,12 +67,12 @@ def by_sqlite(folder, sessions, commits):
 
 def measure(program, rounds, folder):
     """For each count of sessions, the best of the runs of both, which take turns."""
-    commits = IN_MEMORY if folder == "/dev/shm" else ON_DISK
+    milliseconds, commits = IN_MEMORY if folder == "/dev/shm" else ON_DISK
     with tempfile.TemporaryDirectory(dir=folder) as inside:
         for sessions in SESSIONS:
             ours, theirs = 0, 0
             for _ in range(rounds):
-                ours = max(ours, by_imgcopy(program, inside, sessions, commits))
+                ours = max(ours, by_imgcopy(program, inside, sessions, milliseconds))
                 theirs = max(theirs, by_sqlite(inside, sessions, commits))
             yield sessions, ours, theirs
 

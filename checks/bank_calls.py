@@ -15,6 +15,8 @@ import os
 import subprocess
 from typing import NamedTuple
 
+from model.log_format import HEADER_SIZE, MAGIC
+
 LOG, FOLDER = "log", ""
 OUTPUT = 1
 # The kinds of files, as the library counts them.
@@ -153,8 +155,14 @@ class Disk:
         for call in kept(waiting, draw):
             is_torn = call.word == "write" and draw.random() < 0.3
             count = draw.randrange(len(call.data) + 1) if is_torn else None
-            data = changed(data, call, count, is_torn and draw.random() < 0.5)
+            fills = is_torn and draw.random() < 0.5
+            # A log's header is in one sector, which a disk writes as a whole or not at all.
+            data = changed(data, call) if is_header(call) else changed(data, call, count, fills)
         return data
+
+
+def is_header(call):
+    return call.word == "write" and call.at == 0 and len(call.data) == HEADER_SIZE and call.data.startswith(MAGIC)
 
 
 def kept(calls, draw):

@@ -156,7 +156,7 @@ class Faults:
         else:
             self.check_told(name, done, point.fault)
         left = read_folder(self.folder)
-        if not is_of(old, left):
+        if not is_of(old, left, done.stdout):
             check_all(self.judge, left, done.stdout)
         if is_met:
             self.check_losses(noted, old, DRAWS_OF_A_LOSS if point.word == "sync" else 1)
@@ -170,9 +170,9 @@ class Faults:
             disk, end = Disk(trace), self.draw.choice((len(trace.calls), self.draw.randint(failed, len(trace.calls))))
             for call in trace.calls[:end]:
                 disk.take(call)
-            left = left_of(disk.files_after_loss(self.draw))
-            if not is_of(old, left):
-                check_left(left, read_lines(trace.output(end)))
+            left, output = left_of(disk.files_after_loss(self.draw)), trace.output(end)
+            if not is_of(old, left, output):
+                check_left(left, read_lines(output))
         self.counts["losses of power"] += count
 
     def play_points(self, points):

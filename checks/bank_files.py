@@ -408,15 +408,17 @@ class OldDay(NamedTuple):
     output: bytes
 
 
-def is_of(old, left):
-    """Whether the log that is left is still that of an older day. As long as it is, nothing else is of a newer one, and
-    what the older day committed is there; its copies are removed first."""
-    if old is None or not left.log or left.log != old.left.log:
+def is_of(old, left, output):
+    """Whether the log that is left is still that of an older day, or still lost, and the newer day has told nothing. As
+    long as that is so, nothing else is of the newer one, and what the older one committed is in its log; its copies are
+    removed first."""
+    if old is None or left.log != old.left.log or b"\n" in output:
         return False
     is_newer = any(old.left.copies.get(number) != data for number, data in left.copies.items())
     if is_newer or left.master not in (None, old.left.master):
-        raise Failure("a newer file is beside the log of an older day")
-    check_left(Left(left.log, None, {}), read_lines(old.output)._replace(copies={}, checkpoints=[]))
+        raise Failure("a newer file is there without a log of a newer day")
+    if left.log:
+        check_left(Left(left.log, None, {}), read_lines(old.output)._replace(copies={}, checkpoints=[]))
     return True
 
 

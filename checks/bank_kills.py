@@ -16,6 +16,9 @@ begins in what a killed one left. Each time:
 - The program for files audits each longest chain and restores each chain, and the log alone, to just the accounts that
   are committed. With no checkpoint yet it is given one, written behind the front.
 - A life that was killed before it had put the older one's log away leaves that, and what it committed.
+
+Before one life in five the log of the one before is lost, and its master record and copies stand there alone. A bank
+begins anew there: as long as there is no newer log nothing else is newer, and no older copy is ever beside a newer log.
 """
 
 import os
@@ -33,7 +36,7 @@ from pathlib import Path
 from checks.bank_files import (Failure, Judge, OldDay, check_all, check_unsure, is_of, memory_place, program_of,
                                read_folder, read_lines)
 
-KILLS, LIVES = 200, 4
+KILLS, LIVES, PART_OF_LOST_LOGS = 200, 4, 0.2
 MOST_TELLERS, MOST_WORKERS = 12, 8
 # So many transfers all tellers would make, which is more than they do in a life, and so many bytes of lines, at most,
 # a life tells before it is killed.
@@ -97,14 +100,18 @@ def play(bank, imgcopy, place, seeds):
     folder, scratch = Path(place) / f"bank-{seeds[0]}", Path(place) / f"scratch-{seeds[0]}"
     folder.mkdir()
     scratch.mkdir()
-    judge, counts, old = Judge(imgcopy, scratch), Counter(), None
+    judge, counts, old, draw = Judge(imgcopy, scratch), Counter(), None, random.Random(seeds[0])
     for seed in seeds:
         life = Life(bank, folder, seed)
+        if old and old.left.log and draw.random() < PART_OF_LOST_LOGS:
+            (folder / "log").unlink()
+            old = old._replace(left=old.left._replace(log=None))
+            counts["begun where the log was lost"] += 1
         try:
             counts[f"behind a {life.live()}"] += 1
             left = read_folder(folder)
-            if is_of(old, left):
-                counts["with the log of an older life"] += 1
+            if is_of(old, left, life.output):
+                counts["with what an older life left"] += 1
                 continue
             front, chains = check_all(judge, left, life.output)
             check_unsure(front, read_lines(life.output), life.tellers)

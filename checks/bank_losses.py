@@ -133,7 +133,7 @@ class Day:
 def check_loss(day, judge, seen, files, output, draw):
     """One cut. Says what was left."""
     left = left_of(files)
-    if is_of(day.old, left):
+    if is_of(day.old, left, output):
         return "of an older day"
     front, chains = check_left(left, read_lines(output), day.known.front(left.log or b""))
     if judge and front.records:

@@ -1,10 +1,10 @@
 //! The run that is measured.
 
-ghost use Rattle.std.specs.Prelude.{◌≡◌, ◌≤◌};
+ghost use Rattle.std.specs.Prelude.{◌≡◌, ◌≤◌, length};
 
 use crate::case::Case;
 use crate::user::{User, Volume};
-use imgcopy_engine::{CopyKind, MAX_SESSIONS, MemDevice, MemStore, OpenGate, PageNo, Setup};
+use imgcopy_engine::{CopyKind, LogDevice, MAX_SESSIONS, MemStore, OpenGate, PageNo, Setup};
 use std::alloc::Global;
 use std::rt::Clock;
 use std::sync::Wait;
@@ -14,12 +14,6 @@ use std::thread;
 use std::thread::{Threads, join};
 use std::time::{Duration, Instant};
 
-/// For how many records the device has room: for all that a log may have.
-const RECORDS: usize = 1_048_576;
-
-/// For how many milliseconds the sessions are measured where there is no copy.
-const ALONE: u64 = 40;
-
 /// How long the copy took, and how many calls the sessions made meanwhile.
 #[derive(Clone, Copy)]
 pub struct Measured {
@@ -27,7 +21,12 @@ pub struct Measured {
     pub calls: u64,
 }
 
-fn volume<G: Ledger>(alloc: Global, blank: Blank, pages: u32) -> Option<Volume<G>>
+fn volume<D: LogDevice + Drop, G: Ledger>(
+    alloc: Global,
+    blank: Blank,
+    pages: u32,
+    device: D,
+) -> Option<Volume<D, G>>
     requires name { blank.name ≡ G.name }
     requires parts { blank.parts ≡ G.parts }
     requires sessions { blank.parts ≡ 65 }
@@ -39,11 +38,14 @@ fn volume<G: Ledger>(alloc: Global, blank: Blank, pages: u32) -> Option<Volume<G
         frames: pages,
     };
     let store = MemStore::new(alloc, pages).ok()?;
-    let device = MemDevice::new(alloc, RECORDS).ok()?;
-    Volume::<G>::new(alloc, blank, setup, store, device).ok()
+    Volume::<D, G>::new(alloc, blank, setup, store, device).ok()
 }
 
-fn users_of<G: Ledger>(alloc: Global, shared: &mut Volume<G>, case: &Case) -> Option<Vec<User<G>>> {
+fn users_of<D: LogDevice, G: Ledger>(
+    alloc: Global,
+    shared: &mut Volume<D, G>,
+    case: &Case,
+) -> Option<Vec<User<G>>> {
     let mut users = Vec::with_capacity(alloc, case.sessions as usize).ok()?;
     for number in 0..case.sessions {
         if shared.sessions() >= MAX_SESSIONS {
@@ -62,50 +64,46 @@ fn users_of<G: Ledger>(alloc: Global, shared: &mut Volume<G>, case: &Case) -> Op
 }
 
 /// Makes the copy, or waits where there is none, and gives the time in nanoseconds.
-fn copy<G: Ledger + Send + Sync, R: Threads + Wait + Clock + Sync>(
-    rt: &R,
-    alloc: Global,
-    shared: &Volume<G>,
-    workers: u32,
-) -> Option<u128>
-    requires { workers ≤ 64 }
+fn copy<D, G, R>(rt: &R, alloc: Global, shared: &Volume<D, G>, case: &Case) -> Option<u128>
+where
+    D: LogDevice + Send,
+    G: Ledger + Send + Sync,
+    R: Threads + Wait + Clock + Sync,
+    requires { case.now.workers ≤ 64 }
 {
     let begin = Instant::now(rt).ok()?;
-    if workers == 0 {
-        thread::sleep(rt, Duration::from_millis(ALONE));
+    if case.workers == 0 {
+        thread::sleep(rt, Duration::from_millis(case.alone));
     } else {
-        let copied = shared.copy_with(rt, alloc, CopyKind::Full, workers, &OpenGate);
+        let copied = shared.copy_with(rt, alloc, CopyKind::Full, case.workers, &OpenGate);
         copied.ok()?;
     }
     Some(begin.elapsed(rt).ok()?.as_nanos())
 }
 
-/// A copy of a volume in memory beside the sessions; None where a call is refused.
-pub fn measure<G: Ledger + Send + Sync, R: Threads + Wait + Clock + Sync>(
+/// Has the copy be made, and the users make transactions meanwhile. None where the copy is refused.
+fn beside<D, G, R>(
     rt: &R,
     alloc: Global,
-    blank: Blank,
+    shared: &Volume<D, G>,
+    users: &mut [User<G>],
     case: &Case,
-) -> Option<Measured>
-    requires name { blank.name ≡ G.name }
-    requires parts { blank.parts ≡ G.parts }
-    requires sessions { blank.parts ≡ 65 }
-    requires some { 1 ≤ case.now.pages }
-    requires few { case.now.pages ≤ 65536 }
+) -> Option<u128>
+where
+    D: LogDevice + Send,
+    G: Ledger + Send + Sync,
+    R: Threads + Wait + Clock + Sync,
     requires workers { case.now.workers ≤ 64 }
-    requires users { 1 ≤ case.now.sessions }
+    requires users { 1 ≤ length users.old }
 {
-    let mut shared = volume::<G>(alloc, blank, case.pages)?;
-    let mut users = users_of(alloc, &mut shared, case)?;
-    shared.checkpoint(rt, &OpenGate).ok()?;
     let stop = AtomicU64::new(0);
-    let (workers, threads) = (case.workers, case.sessions as usize);
+    let threads = users.len();
     let (nanoseconds, _) = join(
         rt,
         || -> Option<u128>
-            requires { workers ≤ 64 }
+            requires { case.now.workers ≤ 64 }
         {
-            let nanoseconds = copy(rt, alloc, &shared, workers);
+            let nanoseconds = copy(rt, alloc, shared, case);
             stop.store(1, Ordering::SeqCst);
             nanoseconds
         },
@@ -114,17 +112,68 @@ pub fn measure<G: Ledger + Send + Sync, R: Threads + Wait + Clock + Sync>(
         {
             thread::for_each_mut(
                 rt,
-                &mut users,
+                users,
                 threads,
-                &|_, user: &mut User<G>| user.work(rt, &shared, &stop),
+                &|_, user: &mut User<G>| user.work(rt, shared, &stop),
             )
         },
     );
-    let nanoseconds = nanoseconds?;
+    nanoseconds
+}
+
+/// How many calls all users were answered; None where one was refused a call.
+fn calls_of<G: Ledger>(users: &[User<G>]) -> Option<u64> {
     let mut calls = 0u64;
-    for user in &users {
+    for user in users {
         user.ended.ok()?;
         calls = calls.wrapping_add(user.calls);
     }
+    Some(calls)
+}
+
+/// The case on a volume that nobody uses yet.
+fn measured_on<D, G, R>(
+    rt: &R,
+    alloc: Global,
+    shared: &mut Volume<D, G>,
+    case: &Case,
+) -> Option<Measured>
+where
+    D: LogDevice + Send,
+    G: Ledger + Send + Sync,
+    R: Threads + Wait + Clock + Sync,
+    requires { case.now.workers ≤ 64 }
+{
+    shared.checkpoint(rt, &OpenGate).ok()?;
+    let mut users = users_of(alloc, shared, case)?;
+    if users.is_empty() {
+        return None;
+    }
+    let nanoseconds = beside(rt, alloc, shared, &mut users, case)?;
+    let calls = calls_of(&users)?;
     Some(Measured { nanoseconds, calls })
+}
+
+/// A copy of a volume in memory beside the sessions, with the log on this device; None where a call
+/// is refused.
+pub fn measure<D, G, R>(
+    rt: &R,
+    alloc: Global,
+    blank: Blank,
+    device: D,
+    case: &Case,
+) -> Option<Measured>
+where
+    D: LogDevice + Send + Drop,
+    G: Ledger + Send + Sync,
+    R: Threads + Wait + Clock + Sync,
+    requires name { blank.name ≡ G.name }
+    requires parts { blank.parts ≡ G.parts }
+    requires sessions { blank.parts ≡ 65 }
+    requires some { 1 ≤ case.now.pages }
+    requires few { case.now.pages ≤ 65536 }
+    requires workers { case.now.workers ≤ 64 }
+{
+    let mut shared = volume::<D, G>(alloc, blank, case.pages, device)?;
+    measured_on(rt, alloc, &mut shared, case)
 }

@@ -1,12 +1,12 @@
 //! A session that makes calls until it is told to stop.
 
 use crate::case::Shape;
-use imgcopy_engine::{MemDevice, MemStore, PageNo, Refusal, Session, Shared, SlotNo};
+use imgcopy_engine::{LogDevice, MemStore, PageNo, Refusal, Session, Shared, SlotNo};
 use std::sync::Wait;
 use std::sync::atomic::{AtomicU64, Ordering};
 use std::sync::ledger::Ledger;
 
-pub type Volume<G> = Shared<MemStore, MemDevice, G>;
+pub type Volume<D, G> = Shared<MemStore, D, G>;
 
 /// A session, the page that it changes, what its transactions do, and how many calls it has made.
 #[derive(Drop)]
@@ -20,7 +20,11 @@ pub struct User<G: Ledger> {
 
 impl<G: Ledger> User<G> {
     /// A transaction of the shape.
-    fn transaction(&mut self, rt: &impl Wait, shared: &Volume<G>) -> Result<(), Refusal> {
+    fn transaction<D: LogDevice>(
+        &mut self,
+        rt: &impl Wait,
+        shared: &Volume<D, G>,
+    ) -> Result<(), Refusal> {
         let Shape { changes, reads } = self.shape;
         let (txn, _) = self.session.begin(rt, shared)?;
         for slot in 0..changes {
@@ -36,10 +40,10 @@ impl<G: Ledger> User<G> {
         Ok(())
     }
 
-    fn transactions(
+    fn transactions<D: LogDevice>(
         &mut self,
         rt: &impl Wait,
-        shared: &Volume<G>,
+        shared: &Volume<D, G>,
         stop: &AtomicU64,
     ) -> Result<(), Refusal> {
         for _ in rt.forever() {
@@ -52,7 +56,7 @@ impl<G: Ledger> User<G> {
     }
 
     /// Makes transactions until `stop` is not 0, or a call is refused.
-    pub fn work(&mut self, rt: &impl Wait, shared: &Volume<G>, stop: &AtomicU64) {
+    pub fn work<D: LogDevice>(&mut self, rt: &impl Wait, shared: &Volume<D, G>, stop: &AtomicU64) {
         self.ended = self.transactions(rt, shared, stop);
     }
 }

@@ -2,11 +2,12 @@
 
 use crate::accounts::{ACCOUNT_PAGES, balances_of, sum_of};
 use crate::case::Case;
-use crate::day::Settled;
+use crate::day::{Behind, Settled};
 use crate::draws::Draws;
 use crate::fault::Fault;
 use imgcopy_engine::{
-    CopyId, CopyKind, LogImage, Page, Retired, Vault, formatted_pages, load, redo_page, undo_all,
+    CopyId, CopyKind, Loaded, LogImage, Page, Redone, Retired, Vault, formatted_pages, load,
+    redo_page, undo_all,
 };
 use std::alloc::{AllocError, Global};
 use std::thread::Threads;
@@ -36,26 +37,98 @@ pub fn lines_of(
     tells_behind: bool,
 ) -> Result<String, Fault> {
     let Settled { retired, behind } = settled;
+    let behind = tells_behind.then_some(behind);
     let mut text = String::new(alloc);
+    match put_lines(rt, &mut text, alloc, case, retired, behind) {
+        Ok(()) => Ok(text),
+        Err(fault) => Err(fault),
+    }
+}
+
+/// These lines.
+fn put_lines(
+    rt: &(impl Threads + Sync),
+    text: &mut String,
+    alloc: Global,
+    case: &Case,
+    retired: Retired,
+    behind: Option<Behind>,
+) -> Result<(), Fault> {
+    match put_copies(text, alloc, &retired, behind) {
+        Ok(()) => put_crash(rt, text, alloc, case, retired),
+        Err(fault) => Err(fault),
+    }
+}
+
+/// The lines of the copies, and what is told of changes behind them.
+fn put_copies(
+    text: &mut String,
+    alloc: Global,
+    retired: &Retired,
+    behind: Option<Behind>,
+) -> Result<(), Fault> {
+    put_kinds(text, retired.vault())?;
+    if let Some(behind) = behind {
+        put_behind(text, COPIES[0], behind.full)?;
+        put_behind(text, COPIES[1], behind.incremental)?;
+    }
+    put_sums(text, alloc, retired)
+}
+
+/// A line of each copy.
+fn put_kinds(text: &mut String, vault: &Vault) -> Result<(), AllocError> {
     for id in COPIES {
-        put_copy(&mut text, retired.vault(), id)?;
+        put_copy(text, vault, id)?;
     }
-    if tells_behind {
-        for (id, pages) in COPIES.iter().zip(behind) {
-            let noun = if pages == 1 { "page" } else { "pages" };
-            write!(text, "changed behind copy {}: {pages} {noun}\n", id.0)?;
-        }
+    Ok(())
+}
+
+/// A line of each copy: what the accounts have together after redo of the whole log on it.
+fn put_sums(text: &mut String, alloc: Global, retired: &Retired) -> Result<(), Fault> {
+    match put_sum(text, alloc, retired, COPIES[0]) {
+        Ok(()) => put_sum(text, alloc, retired, COPIES[1]),
+        Err(fault) => Err(fault),
     }
-    for id in COPIES {
-        let sum = redone_sum(alloc, &retired, id)?;
-        write!(text, "copy {} and the whole log: {sum}\n", id.0)?;
+}
+
+/// The line of one of them.
+fn put_sum(text: &mut String, alloc: Global, retired: &Retired, id: CopyId) -> Result<(), Fault> {
+    match redone_sum(alloc, retired, id) {
+        Ok(sum) => put_total(text, id, sum).map_err(Fault::Memory),
+        Err(fault) => Err(fault),
     }
+}
+
+fn put_total(text: &mut String, id: CopyId, sum: u64) -> Result<(), AllocError> {
+    write!(text, "copy {} and the whole log: {sum}\n", id.0)
+}
+
+/// A line of how many pages were changed behind a copy.
+fn put_behind(text: &mut String, id: CopyId, pages: u32) -> Result<(), AllocError> {
+    let noun = if pages == 1 { "page" } else { "pages" };
+    write!(text, "changed behind copy {}: {pages} {noun}\n", id.0)
+}
+
+/// The lines of the crash, and of the restore of what it left.
+fn put_crash(
+    rt: &(impl Threads + Sync),
+    text: &mut String,
+    alloc: Global,
+    case: &Case,
+    retired: Retired,
+) -> Result<(), Fault> {
     let lost = lost_records(case);
-    let records = if lost == 1 { "record" } else { "records" };
-    write!(text, "the crash takes {lost} {records}\n")?;
     let kept = (retired.log().records().len() as u64).saturating_sub(lost);
-    put_restore(rt, &mut text, alloc, retired, kept as usize)?;
-    Ok(text)
+    match put_lost(text, lost) {
+        Ok(()) => put_restore(rt, text, alloc, retired, kept as usize),
+        Err(error) => Err(Fault::Memory(error)),
+    }
+}
+
+/// The line of how many records the crash takes.
+fn put_lost(text: &mut String, lost: u64) -> Result<(), AllocError> {
+    let records = if lost == 1 { "record" } else { "records" };
+    write!(text, "the crash takes {lost} {records}\n")
 }
 
 /// A line of what a copy is on, and how many pages it has.
@@ -110,28 +183,45 @@ fn put_restore(
     retired: Retired,
     kept: usize,
 ) -> Result<(), Fault> {
-    let id = COPIES[1];
-    let loaded = match load(alloc, retired, id, kept) {
-        Ok(loaded) => loaded,
-        Err((_, fault)) => return Err(Fault::Load(fault)),
+    match load(alloc, retired, COPIES[1], kept) {
+        Ok(loaded) => put_redone(rt, text, alloc, loaded),
+        Err((_, fault)) => Err(Fault::Load(fault)),
+    }
+}
+
+/// The same, once the copy is loaded.
+fn put_redone(
+    rt: &(impl Threads + Sync),
+    text: &mut String,
+    alloc: Global,
+    loaded: Loaded,
+) -> Result<(), Fault> {
+    let plain = match plain_pages(alloc, loaded.log()) {
+        Ok(plain) => plain,
+        Err(error) => return Err(Fault::Memory(error)),
     };
-    let plain = plain_pages(alloc, loaded.log())?;
-    let redone = match loaded.redo(rt, alloc) {
-        Ok(redone) => redone,
-        Err((_, fault)) => return Err(Fault::Redo(fault)),
-    };
-    if redone.pages() != plain.as_slice() {
+    match loaded.redo(rt, alloc) {
+        Ok(redone) => put_undone(text, &plain, redone),
+        Err((_, fault)) => Err(Fault::Redo(fault)),
+    }
+}
+
+/// The same, once it is redone, which makes the pages that plain redo makes.
+fn put_undone(text: &mut String, plain: &[Page], redone: Redone) -> Result<(), Fault> {
+    if redone.pages() != plain {
+        let id = COPIES[1];
         return Err(Fault::Differs(id.0));
     }
-    write!(text, "after redo: {}\n", sum_of(redone.pages()))?;
+    let sum = sum_of(redone.pages());
     match undo_all(redone) {
-        Ok(undone) => Ok(put_balances(text, undone.pages())?),
+        Ok(undone) => put_balances(text, sum, undone.pages()).map_err(Fault::Memory),
         Err((_, fault)) => Err(Fault::Undo(fault)),
     }
 }
 
-/// The sum of all accounts, and a line for each page of them.
-fn put_balances(text: &mut String, pages: &[Page]) -> Result<(), AllocError> {
+/// The sums of all accounts after redo and after undo, and a line for each page of them.
+fn put_balances(text: &mut String, redone: u64, pages: &[Page]) -> Result<(), AllocError> {
+    write!(text, "after redo: {redone}\n")?;
     write!(text, "after undo: {}\n", sum_of(pages))?;
     for page in pages.iter().take(ACCOUNT_PAGES as usize) {
         write!(text, "page {}:", page.number.0)?;

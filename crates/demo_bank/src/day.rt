@@ -53,58 +53,77 @@ pub fn hire_tellers<S: PageStore + Drop, D: LogDevice + Drop, G: Ledger>(
 
 /// All who work there: the copier first, so that its copies begin soon; then the tellers, and one
 /// of each other duty.
-fn clerks_of<G: Ledger>(
+fn hire_all<G: Ledger>(
     alloc: Global,
     bank: &mut MemBank<G>,
     case: &Case,
-) -> Result<Vec<Clerk<G>>, Fault> {
-    let mut clerks = Vec::new(alloc);
+    clerks: &mut Vec<Clerk<G>>,
+) -> Result<(), Fault> {
     let copier = Duty::Copier {
         full: case.full,
         incremental: case.incremental,
     };
     clerks.push(Clerk::hire(alloc, bank, copier)?)?;
-    hire_tellers(alloc, bank, case, &mut clerks)?;
+    hire_tellers(alloc, bank, case, clerks)?;
     for duty in [Duty::Flusher, Duty::Checkpointer] {
         clerks.push(Clerk::hire(alloc, bank, duty)?)?;
     }
-    Ok(clerks)
+    Ok(())
 }
 
-/// Opens the accounts, stores their pages, and takes a checkpoint.
+/// Has this clerk open the accounts, stores their pages, and takes a checkpoint.
 fn open_accounts<G: Ledger>(
     rt: &impl Wait,
-    alloc: Global,
-    bank: &mut MemBank<G>,
-    watch: &Watch,
-) -> Result<Clerk<G>, Fault> {
-    let mut first = Clerk::hire(alloc, bank, Duty::Checkpointer)?;
-    let office = Office {
-        bank,
-        watch,
-        helper: &NoHelp,
-    };
-    first.open_accounts(rt, &office)?;
-    flush(rt, bank, 1)?;
-    let work = bank.checkpoint(rt, &OpenGate)?;
-    first.works.push(work)?;
-    Ok(first)
+    office: &MemOffice<'_, G>,
+    clerk: &mut Clerk<G>,
+) -> Result<(), Halt> {
+    clerk.open_accounts(rt, office)?;
+    flush(rt, office.bank, 1)?;
+    let work = office.bank.checkpoint(rt, &OpenGate)?;
+    Ok(clerk.keep(work)?)
 }
 
-/// What the clerks were answered: their sessions, their checkpoints and their copies.
-pub fn answers_of<G: Ledger>(
-    alloc: Global,
-    clerks: Vec<Clerk<G>>,
-) -> Result<(Vec<Session<G>>, Vec<Work>), AllocError> {
-    let mut sessions = Vec::new(alloc);
+/// What the clerks were answered: their sessions, and their checkpoints and copies.
+#[derive(Drop)]
+pub struct Answers<G: Ledger> {
+    sessions: Vec<Session<G>>,
+    works: Vec<Work>,
+}
+
+/// The checkpoints and the copies of all clerks.
+fn works_of<G: Ledger>(alloc: Global, clerks: &[Clerk<G>]) -> Result<Vec<Work>, AllocError> {
     let mut works = Vec::new(alloc);
     for clerk in clerks {
-        sessions.push(clerk.session)?;
         for work in &clerk.works {
             works.push(*work)?;
         }
     }
-    Ok((sessions, works))
+    Ok(works)
+}
+
+/// What these clerks were answered.
+pub fn answers_of<G: Ledger>(
+    alloc: Global,
+    clerks: Vec<Clerk<G>>,
+) -> Result<Answers<G>, AllocError> {
+    let works = works_of(alloc, &clerks)?;
+    let mut sessions = Vec::with_capacity(alloc, clerks.len())?;
+    for clerk in clerks {
+        sessions.push(clerk.session)?;
+    }
+    Ok(Answers { sessions, works })
+}
+
+/// Ends the run of a bank, where it is settled with what all were answered.
+pub fn end_run<S: PageStore + Drop, D: LogDevice + Drop, G: Ledger>(
+    alloc: Global,
+    answers: Answers<G>,
+    bank: Bank<S, D, G>,
+) -> Result<Retired, Fault> {
+    match settle(alloc, answers.sessions, &answers.works, bank) {
+        Ok(retired) => Ok(retired),
+        Err(back) => Err(Fault::Settle(back.fault)),
+    }
 }
 
 /// The first refusal that a clerk met.
@@ -131,11 +150,75 @@ fn leave_open<G: Ledger>(
     Ok(())
 }
 
+/// Has all clerks work at the same time, each in a thread of its own.
+fn all_work<G: Ledger + Send + Sync, R: Threads + Wait + Sync>(
+    rt: &R,
+    alloc: Global,
+    office: &MemOffice<'_, G>,
+    clerks: &mut [Clerk<G>],
+) {
+    let count = clerks.len();
+    if count > 0 {
+        thread::for_each_mut(
+            rt,
+            clerks,
+            count,
+            &|_, clerk: &mut Clerk<G>| clerk.work(rt, alloc, office),
+        );
+    }
+}
+
+/// The work of a day, from the opening of the accounts to the transfers that are left open.
+fn work_day<G: Ledger + Send + Sync, R: Threads + Wait + Sync>(
+    rt: &R,
+    alloc: Global,
+    office: &MemOffice<'_, G>,
+    clerks: &mut [Clerk<G>],
+) -> Result<(), Halt> {
+    if let Some(clerk) = clerks.first_mut() {
+        open_accounts(rt, office, clerk)?;
+    }
+    all_work(rt, alloc, office, clerks);
+    first_refusal(clerks)?;
+    leave_open(rt, office, clerks)
+}
+
+/// How many pages were changed behind each copy.
+#[derive(Clone, Copy, Drop)]
+pub struct Behind {
+    pub full: u32,
+    pub incremental: u32,
+}
+
+/// The same by clerks that are hired for it: what they were answered, and what was changed behind
+/// the copies.
+fn worked<G: Ledger + Send + Sync, R: Threads + Wait + Sync>(
+    rt: &R,
+    alloc: Global,
+    bank: &mut MemBank<G>,
+    case: &Case,
+) -> Result<(Answers<G>, Behind), Fault> {
+    let watch = Watch::new(alloc, case.tellers)?;
+    let mut clerks = Vec::new(alloc);
+    hire_all(alloc, bank, case, &mut clerks)?;
+    let office = Office {
+        bank,
+        watch: &watch,
+        helper: &NoHelp,
+    };
+    work_day(rt, alloc, &office, &mut clerks)?;
+    let behind = Behind {
+        full: watch.changed_behind(Which::Full),
+        incremental: watch.changed_behind(Which::Incremental),
+    };
+    Ok((answers_of(alloc, clerks)?, behind))
+}
+
 /// What a day leaves: what the engine does, and how many pages were changed behind each copy.
 #[derive(Drop)]
 pub struct Settled {
     pub retired: Retired,
-    pub behind: [u32; 2],
+    pub behind: Behind,
 }
 
 /// Opens the bank, has all clerks work at the same time, and settles. At the end each teller has
@@ -151,40 +234,11 @@ pub fn day<G: Ledger + Send + Sync, R: Threads + Wait + Sync>(
     requires sessions { blank.parts ≡ 65 }
 {
     let mut bank = open_bank::<G>(alloc, blank)?;
-    let watch = Watch::new(alloc, case.tellers)?;
-    let first = open_accounts(rt, alloc, &mut bank, &watch)?;
-    let mut clerks = clerks_of(alloc, &mut bank, case)?;
-    let count = clerks.len();
-    if count > 0 {
-        thread::for_each_mut(
-            rt,
-            &mut clerks,
-            count,
-            &|_, clerk: &mut Clerk<G>| {
-                let office = Office {
-                    bank: &bank,
-                    watch: &watch,
-                    helper: &NoHelp,
-                };
-                clerk.work(rt, alloc, &office)
-            },
-        );
-    }
-    first_refusal(&clerks)?;
-    let office = Office {
-        bank: &bank,
-        watch: &watch,
-        helper: &NoHelp,
-    };
-    leave_open(rt, &office, &mut clerks)?;
-    clerks.push(first)?;
-    let (sessions, works) = answers_of(alloc, clerks)?;
-    let behind = [
-        watch.changed_behind(Which::Full),
-        watch.changed_behind(Which::Incremental),
-    ];
-    match settle(alloc, sessions, &works, bank) {
-        Ok(retired) => Ok(Settled { retired, behind }),
-        Err(back) => Err(Fault::Settle(back.fault)),
+    match worked(rt, alloc, &mut bank, case) {
+        Ok((answers, behind)) => {
+            let retired = end_run(alloc, answers, bank)?;
+            Ok(Settled { retired, behind })
+        }
+        Err(fault) => Err(fault),
     }
 }

@@ -5,18 +5,18 @@ ghost use Rattle.std.specs.Prelude.{◌≡◌};
 use crate::accounts::PAGES;
 use crate::case::Case;
 use crate::clerk::{Clerk, Duty, Office};
-use crate::day::{answers_of, hire_tellers};
+use crate::day::{Answers, answers_of, end_run, hire_tellers};
 use crate::day_files::Devices;
 use crate::fault::Fault;
 use crate::hall::Hall;
 use crate::halt::Halt;
 use crate::line::Line;
-use crate::on_files::FileBank;
+use crate::on_files::{FileBank, FileOffice};
 use crate::watch::Watch;
-use imgcopy_engine::{MemStore, Notes, Refusal, Retired, Setup, SystemFolder, settle};
-use std::alloc::{AllocError, Global};
+use imgcopy_engine::{MemStore, Notes, Refusal, Retired, Setup, SystemFolder};
+use std::alloc::Global;
+use std::sync::Wait;
 use std::sync::ledger::{Blank, Ledger};
-use std::sync::{Mutex, Wait};
 use std::thread;
 use std::thread::{Scope, Threads};
 
@@ -54,34 +54,25 @@ pub fn open_bank<G: Ledger>(
     Ok(FileBank::<G>::new(alloc, blank, setup, volume, log)?)
 }
 
-/// Opens the accounts, stores their pages, and takes a checkpoint.
+/// Has this clerk open the accounts and take a checkpoint.
 pub fn open_accounts<G: Ledger>(
     rt: &impl Wait,
-    alloc: Global,
-    bank: &mut FileBank<G>,
-    watch: &Watch,
-    hall: &Hall<'_>,
-) -> Result<Clerk<G>, Fault> {
-    let mut first = Clerk::hire(alloc, bank, Duty::Checkpointer)?;
-    let office = Office {
-        bank,
-        watch,
-        helper: hall,
-    };
-    let commit = first.open_accounts(rt, &office)?;
-    hall.tell(rt, &Line::Opened(commit))?;
-    first.checkpoint_on_file(rt, &office)?;
-    Ok(first)
+    office: &FileOffice<'_, G>,
+    clerk: &mut Clerk<G>,
+) -> Result<(), Halt> {
+    let commit = clerk.open_accounts(rt, office)?;
+    office.helper.tell(rt, &Line::Opened(commit))?;
+    clerk.checkpoint_on_file(rt, office)
 }
 
 /// All who work there: the tellers, and one of each other duty.
-fn clerks_of<G: Ledger>(
+fn hire_all<G: Ledger>(
     alloc: Global,
     bank: &mut FileBank<G>,
     case: &Case,
-) -> Result<Vec<Clerk<G>>, Fault> {
-    let mut clerks = Vec::new(alloc);
-    hire_tellers(alloc, bank, case, &mut clerks)?;
+    clerks: &mut Vec<Clerk<G>>,
+) -> Result<(), Fault> {
+    hire_tellers(alloc, bank, case, clerks)?;
     let copier = Duty::Copier {
         full: case.full,
         incremental: case.incremental,
@@ -89,78 +80,78 @@ fn clerks_of<G: Ledger>(
     for duty in [copier, Duty::Flusher, Duty::Checkpointer] {
         clerks.push(Clerk::hire(alloc, bank, duty)?)?;
     }
-    Ok(clerks)
+    Ok(())
 }
 
-/// Has a clerk do what is its duty, and leaves it with those that have ended.
-fn work<G: Ledger + Send + Sync, R: Threads + Wait + Sync>(
-    rt: &R,
-    bank: &FileBank<G>,
-    watch: &Watch,
-    hall: &Hall<'_>,
-    mut clerk: Clerk<G>,
-    ended: &Mutex<Vec<Clerk<G>>>,
-) {
-    let office = Office {
-        bank,
-        watch,
-        helper: hall,
-    };
-    clerk.work_on_files(rt, hall.files.alloc(), &office);
-    // There is room for each. A clerk that is lost leaves a run that is not settled.
-    let _ = ended.lock(rt).push(clerk);
-}
-
-/// The same in a thread of its own. Says whether there is one.
-fn start<'s, E, G: Ledger + Send + Sync, R: Threads + Wait + Sync>(
-    scope: &Scope<'s, E>,
-    rt: &'s R,
-    bank: &'s FileBank<G>,
-    watch: &'s Watch,
-    hall: &'s Hall<'s>,
-    clerk: Clerk<G>,
-    ended: &'s Mutex<Vec<Clerk<G>>>,
-) -> bool {
-    scope
-        .spawn(move || work(rt, bank, watch, hall, clerk, ended))
-        .is_ok()
-}
-
-/// The same of all clerks. Where a thread cannot be started, memory is short, and that ends the
-/// day: others would wait for the one who has not come.
+/// Has each clerk work in a thread of its own. Where a thread cannot be started, memory is short,
+/// and that ends the day: others would wait for the one who has not come.
 fn start_all<'s, E, G: Ledger + Send + Sync, R: Threads + Wait + Sync>(
     scope: &Scope<'s, E>,
     rt: &'s R,
-    bank: &'s FileBank<G>,
-    watch: &'s Watch,
-    hall: &'s Hall<'s>,
-    clerks: Vec<Clerk<G>>,
-    ended: &'s Mutex<Vec<Clerk<G>>>,
+    office: &'s FileOffice<'s, G>,
+    clerks: &'s mut [Clerk<G>],
 ) {
     for clerk in clerks {
-        if !start(scope, rt, bank, watch, hall, clerk, ended) {
+        let started = scope.spawn(move || clerk.work_on_files(rt, office));
+        if started.is_err() {
             let short = Err(Halt::Refused(Refusal::OutOfMemory));
-            hall.note(rt, &short);
+            office.helper.note(rt, &short);
             return;
         }
     }
 }
 
-/// Has all clerks work at the same time, and gives those that have ended.
-fn all_worked<G: Ledger + Send + Sync, R: Threads + Wait + Sync>(
+/// Has all clerks work at the same time, and says why the day ended, if a fault ended it.
+fn all_work<G: Ledger + Send + Sync, R: Threads + Wait + Sync>(
     rt: &R,
-    bank: &FileBank<G>,
-    watch: &Watch,
-    hall: &Hall<'_>,
-    clerks: Vec<Clerk<G>>,
-) -> Result<Vec<Clerk<G>>, AllocError> {
-    let count = clerks.len().saturating_add(1);
-    let ended = Mutex::new(Vec::with_capacity(hall.files.alloc(), count)?);
-    let leave = &ended;
+    office: &FileOffice<'_, G>,
+    clerks: &mut [Clerk<G>],
+) -> Result<(), Halt> {
     thread::scope(thread::scope_env(), rt, |scope| {
-        start_all(scope, rt, bank, watch, hall, clerks, leave)
+        start_all(scope, rt, office, clerks)
     });
-    Ok(ended.into_inner())
+    office.helper.halted(rt)
+}
+
+/// The work of a day, from the opening of the accounts on, by clerks that are hired for it.
+fn worked<G: Ledger + Send + Sync, R: Threads + Wait + Sync>(
+    rt: &R,
+    bank: &mut FileBank<G>,
+    hall: &Hall<'_>,
+    case: &Case,
+) -> Result<Answers<G>, Fault> {
+    let alloc = hall.files.alloc();
+    let watch = Watch::new(alloc, case.tellers)?;
+    let mut clerks = Vec::new(alloc);
+    hire_all(alloc, bank, case, &mut clerks)?;
+    let office = Office {
+        bank,
+        watch: &watch,
+        helper: hall,
+    };
+    if let Some(clerk) = clerks.first_mut() {
+        open_accounts(rt, &office, clerk)?;
+    }
+    all_work(rt, &office, &mut clerks)?;
+    Ok(answers_of(alloc, clerks)?)
+}
+
+/// A day of a bank that is open.
+fn day_in<G: Ledger + Send + Sync, R: Threads + Wait + Sync>(
+    rt: &R,
+    plan: &Plan<'_>,
+    mut bank: FileBank<G>,
+) -> Result<Retired, Fault> {
+    let case = plan.case;
+    let hall = Hall::new(plan.files, plan.folder, case.tellers, plan.transfers);
+    match worked(rt, &mut bank, &hall, case) {
+        Ok(answers) => {
+            let retired = end_run(plan.files.alloc(), answers, bank)?;
+            hall.tell(rt, &Line::Closed)?;
+            Ok(retired)
+        }
+        Err(fault) => Err(fault),
+    }
 }
 
 /// Opens the bank in a folder, has all clerks work at the same time, and settles. Each thing that
@@ -179,32 +170,5 @@ pub fn file_day<G: Ledger + Send + Sync, R: Threads + Wait + Sync>(
     // It is claimed until the day is over.
     let mut folder = SystemFolder::new(files, files.alloc(), name, &notes);
     let bank = open_bank::<G>(files, &mut folder, name, blank)?;
-    day_in(rt, files, name, bank, plan.case, plan.transfers)
-}
-
-/// The same, once the bank is open.
-fn day_in<'x, G: Ledger + Send + Sync, R: Threads + Wait + Sync>(
-    rt: &R,
-    files: &'x HostRuntime,
-    name: &'x str,
-    mut bank: FileBank<G>,
-    case: &Case,
-    transfers: u32,
-) -> Result<Retired, Fault> {
-    let alloc = files.alloc();
-    let watch = Watch::new(alloc, case.tellers)?;
-    let hall = Hall::new(files, name, case.tellers, transfers);
-    let first = open_accounts(rt, alloc, &mut bank, &watch, &hall)?;
-    let clerks = clerks_of(alloc, &mut bank, case)?;
-    let mut clerks = all_worked(rt, &bank, &watch, &hall, clerks)?;
-    hall.halted(rt)?;
-    clerks.push(first)?;
-    let (sessions, works) = answers_of(alloc, clerks)?;
-    match settle(alloc, sessions, &works, bank) {
-        Ok(retired) => {
-            hall.tell(rt, &Line::Closed)?;
-            Ok(retired)
-        }
-        Err(back) => Err(Fault::Settle(back.fault)),
-    }
+    day_in(rt, plan, bank)
 }

@@ -28,7 +28,7 @@ use day::day;
 use fault::Fault;
 use file_day::{Plan, file_day};
 use halt::{FileTrouble, Halt, Place};
-use imgcopy_engine::{Notes, Retired, SystemFolder, save_files};
+use imgcopy_engine::{Notes, Retired, SaveFault, SystemFolder, save_files};
 use std::fs::File;
 use std::marker::Brand;
 use std::process::ExitCode;
@@ -50,11 +50,25 @@ fn play<R: Threads + Wait + Sync>(
 ) -> Result<String, Fault> {
     let (alloc, case) = (files.alloc(), &call.case);
     let settled = day::<Brand, R>(rt, alloc, Blank::new(65), case)?;
-    if let Some(folder) = call.save {
-        let mut made = SystemFolder::new(files, alloc, folder, notes);
-        save_files(&mut made, alloc, &settled.retired)?;
+    match save(files, call, notes, &settled.retired) {
+        Ok(()) => lines_of(rt, alloc, case, settled, call.tells_behind),
+        Err(fault) => Err(Fault::Save(fault)),
     }
-    lines_of(rt, alloc, case, settled, call.tells_behind)
+}
+
+/// Saves the files of a case, if they are to be saved.
+fn save(
+    files: &HostRuntime,
+    call: &Call<'_>,
+    notes: &Notes,
+    retired: &Retired,
+) -> Result<(), SaveFault> {
+    let Some(folder) = call.save else {
+        return Ok(());
+    };
+    let alloc = files.alloc();
+    let mut made = SystemFolder::new(files, alloc, folder, notes);
+    save_files(&mut made, alloc, retired)
 }
 
 /// Plays a day in memory, and prints its lines.

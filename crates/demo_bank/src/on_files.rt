@@ -157,13 +157,8 @@ impl<G: Ledger> Clerk<G> {
 
 impl<G: Ledger + Send + Sync> Clerk<G> {
     /// Does what is its duty, as long as there are tellers, and notes how it ended.
-    pub fn work_on_files<R: Threads + Wait + Sync>(
-        &mut self,
-        rt: &R,
-        alloc: Global,
-        office: &FileOffice<'_, G>,
-    ) {
-        let duty = self.duty;
+    pub fn work_on_files<R: Threads + Wait + Sync>(&mut self, rt: &R, office: &FileOffice<'_, G>) {
+        let (duty, alloc) = (self.duty, office.helper.files.alloc());
         let transfers = office.helper.transfers;
         self.ended = match duty {
             Duty::Teller(draws) => self.tell_transfers(rt, office, draws, transfers),

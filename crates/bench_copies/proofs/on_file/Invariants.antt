@@ -1,4 +1,4 @@
-use Rattle.bench_commits.proofs.main.Given as goal
+use Rattle.bench_copies.proofs.on_file.Given as goal
 
 abbrev pub ghosts-measure : goal.ghosts-measure
 ghosts-measure g a = record { name = a.blank.name; parts = a.blank.parts }
