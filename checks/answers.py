@@ -31,8 +31,8 @@ from model.frame_rows import FRAME_ROWS
 from model.growth_rows import BY_ONE, GROWTH_AUDIT_ROWS, GROWTH_FILE_ROWS, GROWTH_ROWS
 from model.random_scripts import Script, bad_script, random_script
 from model.faulty_engine import committed_numbers, numbers_of
-from model.recovery import (Answer, answer_of, audit_files, encode_pages, fault_lines, redo_all, redo_file, restore_files,
-                            undo_records)
+from model.recovery import (Answer, answer_of, audit_files, encode_pages, fault_lines, read_log, redo_all, redo_file,
+                            restore_files, undo_records)
 from model.savepoint_rows import (MANY_COMPS, SAVEPOINT_FILE_ROWS, SAVEPOINT_ROOM, SAVEPOINT_ROWS, SAVEPOINT_SIZES,
                                   many_comps)
 from model.scripts import LONGEST_SCRIPT, run
@@ -46,6 +46,7 @@ CUTS_IN_A_RUN = 3
 MOST_PAGES_SPOILED = 1000
 MOST_SECONDS = 300
 MOST_SHOWN = 20  # of the differences
+LEAST_LOG = {"restore": 576, "audit": 448, "redo": 64}  # how many bytes a log has to keep of that of a chain
 MEMORY = "/dev/shm"  # a folder in memory, where the system has one
 
 
@@ -308,21 +309,45 @@ def check_audit_row(checker, row, saved):
 
 
 def check_cuts(checker, saved):
-    """An audit of a chain of which one file is cut, at each length, with files of each format."""
+    """A chain of which one file is cut, at each length, with files of each format: it is restored and audited, and the
+    log redone."""
     archives = ["copy-1", "copy-2", "copy-3"]
     first = saved | {name: model_file_rows.of_first_format(saved[name]) for name in ["log", *archives]}
     answers = []
     for whole in (saved, first):
         answers.append([])
-        for name in ["log", *archives]:
+        for name in ["log", "master", *archives]:
             for size in range(len(whole[name])):
-                files = whole | {name: whole[name][:size]}
-                wanted = audit_files(files["log"], [files[archive] for archive in archives])
-                answers[-1].append(wanted)
-                checker.write(files)
-                checker.check(f"{name} cut to {size} bytes, audited", wanted, ["audit", "log", *archives])
+                checker.write(whole | {name: whole[name][:size]})
+                given = answers_of_cut(whole, name, size, archives)
+                answers[-1].append(given)
+                for words, answer in given.items():
+                    text = whole["log"][:size] if words == "redo" else b""
+                    checker.check(f"{name} cut to {size} bytes", answer, words.split(), text)
     if answers[0] != answers[1]:
-        raise Failure("the model does not audit files of the first format as it audits those of the second")
+        raise Failure("the model does not answer files of the first format as it answers those of the second")
+
+
+def answers_of_cut(whole, name, size, archives):
+    """The answers where this file is cut. It is refused, but for a log that ends with a whole record: that one is
+    redone, is sound where it has the last redo point, which is 384, and is restored where it has the checkpoint that the
+    master record names, whose end stands at 512."""
+    files = whole | {name: whole[name][:size]}
+    log, chain = files["log"], [files[archive] for archive in archives]
+    restored, audited = answer_of(restore_files, log, files["master"], chain), audit_files(log, chain)
+    given = {" ".join(["restore", "log", "master", *archives]): restored}
+    if name != "master":
+        given[" ".join(["audit", "log", *archives])] = audited
+    if name == "log":
+        given["redo"] = answer_of(redo_file, log)
+    for words, answer in given.items():
+        if (answer.status == 0) != (name == "log" and size % RECORD_SIZE == 0 and size >= LEAST_LOG[words.split()[0]]):
+            raise Failure(f"the model, {name} cut to {size} bytes: {words} gives {answer}")
+    if restored.status == 0:
+        pages, records = read_log(log)
+        if restored.output != encode_pages(redo_all(records + undo_records(records), pages)):
+            raise Failure(f"the model, a log cut to {size} bytes: it restores another volume than the log makes")
+    return given
 
 
 # What is long, and what has a known answer without the model

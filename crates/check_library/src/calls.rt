@@ -1,298 +1,239 @@
-//! A series of calls of the engine, and a restore of the copy that it made. A call that is refused
-//! for lack of memory is made again.
-#![tactic(auto)]
+//! A script whose calls are made one by one and as a list, and its last restore. A call that is
+//! refused for lack of memory is made again.
 
-use aries_core::{Answer, Engine, Event, Played, Refusal, Reply, Setup, play};
+ghost use Rattle.buffer_pool.specs.Pool.{IsFrameCount};
+ghost use Rattle.log_records.specs.Log.{IsPageCount};
+
+use crate::lines::put_page;
+use aries_core::{Engine, Event, Played, Refusal, Reply, Setup, play};
 use copy_coverage::Retired;
-use copy_vault::CopyId;
+use event_script::{LastRestore, ReplyLine, Script, read_script};
 use log_store::MemDevice;
 use loser_undo::{Redone, UndoFault, Undone, undo_all};
-use media_restore::{LoadFault, Loaded, RedoFault, load};
-use page_core::{Lsn, Page, PageNo, SlotNo, TxnNo};
+use media_restore::{LoadFault, Loaded, RedoFault, Refused, load};
 use page_store::MemStore;
 use std::alloc::Global;
+use std::io::Read;
 use std::thread::Threads;
 
-const SETUP: Setup = Setup {
-    pages: 1,
-    frames: 1,
-};
-
-fn set(txn: u32, number: u64) -> Event {
-    Event::Set {
-        txn: TxnNo(txn),
-        page: PageNo(0),
-        slot: SlotNo(0),
-        number,
-    }
+/// What comes of a script: the lines of its replies and of its last restore, and whether a call was
+/// made again.
+#[derive(Drop)]
+pub struct Told {
+    pub text: String,
+    pub again: bool,
 }
 
-fn add(txn: u32, slot: u16, amount: u64) -> Event {
-    Event::Add {
-        txn: TxnNo(txn),
-        page: PageNo(0),
-        slot: SlotNo(slot),
-        amount,
-    }
+/// Plays a script, and does its last restore; None where the input is no script, or where memory
+/// for it or for the lines is refused.
+pub fn told_of_calls(
+    rt: &(impl Threads + Sync),
+    alloc: Global,
+    setup: Setup,
+    input: &mut impl Read,
+) -> Option<Told>
+    requires pages { IsPageCount setup.pages }
+    requires frames { IsFrameCount setup.frames }
+{
+    let script = read_script(alloc, input).ok()?;
+    let mut told = Told {
+        text: String::new(alloc),
+        again: false,
+    };
+    let replies = put_calls(rt, alloc, setup, &script, &mut told)?;
+    put_list(alloc, setup, &script.events, &replies, &mut told)?;
+    Some(told)
 }
 
-fn began(txn: u32, lsn: u64) -> Reply {
-    Ok(Answer::Began {
-        txn: TxnNo(txn),
-        lsn: Lsn(lsn),
-    })
+/// Makes the calls one by one, and does the restore. The replies.
+fn put_calls(
+    rt: &(impl Threads + Sync),
+    alloc: Global,
+    setup: Setup,
+    script: &Script,
+    told: &mut Told,
+) -> Option<Vec<Reply>>
+    requires pages { IsPageCount setup.pages }
+    requires frames { IsFrameCount setup.frames }
+{
+    let mut replies = Vec::with_capacity(alloc, script.events.len()).ok()?;
+    let mut engine = engine_in_two(alloc, setup, script.events.len(), told)?;
+    let called = call_each(&mut engine, &script.events, &mut replies, told);
+    let restored = put_restore(rt, alloc, engine.retire(), script.restore, told);
+    called?;
+    restored?;
+    Some(replies)
 }
 
-fn logged(lsn: u64) -> Reply {
-    Ok(Answer::Logged(Lsn(lsn)))
+/// An engine over formatted pages, whose log has room for so many records.
+fn new_engine(alloc: Global, setup: Setup, records: usize) -> Option<Engine<MemStore, MemDevice>>
+    requires pages { IsPageCount setup.pages }
+    requires frames { IsFrameCount setup.frames }
+{
+    let store = MemStore::new(alloc, setup.pages).ok()?;
+    let device = MemDevice::new(alloc, records).ok()?;
+    Engine::new(alloc, setup, store, device).ok()
 }
 
-fn point(begin: u64, end: u64, redo: u64) -> Reply {
-    Ok(Answer::Point {
-        begin: Lsn(begin),
-        end: Lsn(end),
-        redo: Lsn(redo),
-    })
-}
-
-fn row() -> [(Event, Reply); 30] {
-    let one = TxnNo(1);
-    let page = PageNo(0);
-    let (full, inc) = (CopyId(1), CopyId(2));
-    [
-        (Event::Begin, began(1, 64)),
-        (set(1, 5), logged(128)),
-        (add(1, 0, 3), logged(192)),
-        (Event::WriteBegin(page), Ok(Answer::Writing(Lsn(192)))),
-        (Event::Begin, began(2, 256)),
-        (set(2, 9), Err(Refusal::SlotBusy(one))),
-        (add(2, 1, 7), logged(320)),
-        (Event::WriteEnd(page), Ok(Answer::Written(Lsn(192)))),
-        (Event::WriteBegin(page), Ok(Answer::Writing(Lsn(320)))),
-        (Event::WriteEnd(page), Ok(Answer::Written(Lsn(320)))),
-        (Event::Abort(one), logged(384)),
-        (Event::UndoStep(one), Ok(Answer::Undid(Lsn(448)))),
-        (Event::UndoStep(one), Ok(Answer::Undid(Lsn(512)))),
-        (Event::UndoStep(one), Ok(Answer::Ended(Lsn(576)))),
-        (Event::UndoStep(one), Err(Refusal::NoTxn)),
-        (set(2, 9), logged(640)),
-        (Event::Commit(TxnNo(2)), logged(704)),
-        (Event::CkptBegin, logged(768)),
-        (Event::CkptGather, Ok(Answer::More)),
-        (Event::CkptGather, Ok(Answer::More)),
-        (Event::CkptGather, Ok(Answer::Done)),
-        (Event::CkptEnd, point(768, 896, 448)),
-        (Event::CopyFull, Ok(Answer::Copied(full))),
-        (
-            Event::Take { copy: full, page },
-            Ok(Answer::Taken(Lsn(320))),
-        ),
-        (Event::Seal(full), Ok(Answer::Sealed(1))),
-        (Event::CopyInc(full), Ok(Answer::Copied(inc))),
-        (Event::Take { copy: inc, page }, Ok(Answer::Kept)),
-        (Event::Seal(inc), Ok(Answer::Sealed(0))),
-        (
-            Event::Repair { copy: inc, page },
-            Ok(Answer::Repaired(Lsn(640))),
-        ),
-        (Event::Force, Ok(Answer::Forced(Lsn(960)))),
-    ]
-}
-
-fn new_engine(alloc: Global) -> Option<Engine<MemStore, MemDevice>> {
-    let store = MemStore::new(alloc, 1).ok()?;
-    let device = MemDevice::new(alloc, 14).ok()?;
-    Engine::new(alloc, SETUP, store, device).ok()
-}
-
-/// Makes a call, and makes it again where memory was refused. The reply, and whether it was.
-fn call(engine: &mut Engine<MemStore, MemDevice>, event: &Event) -> (Reply, bool) {
-    let reply = engine.apply(*event);
-    if reply == Err(Refusal::OutOfMemory) {
-        (engine.apply(*event), true)
-    } else {
-        (reply, false)
-    }
-}
-
-/// Has a new transaction change each slot, so that all that an engine keeps of it grows.
-fn change_each_slot(engine: &mut Engine<MemStore, MemDevice>) -> Option<bool> {
-    let (begun, mut again) = call(engine, &Event::Begin);
-    if begun != began(3, 960) {
-        return None;
-    }
-    for slot in 0..62 {
-        let (given, was_refused) = call(engine, &add(3, slot, 1));
-        if given != logged(1024 + 64 * slot as u64) {
-            return None;
+/// An engine, at the first try or at the second one.
+fn engine_in_two(
+    alloc: Global,
+    setup: Setup,
+    records: usize,
+    told: &mut Told,
+) -> Option<Engine<MemStore, MemDevice>>
+    requires pages { IsPageCount setup.pages }
+    requires frames { IsFrameCount setup.frames }
+{
+    match new_engine(alloc, setup, records) {
+        Some(engine) => Some(engine),
+        None => {
+            told.again = true;
+            new_engine(alloc, setup, records)
         }
-        again = again || was_refused;
-    }
-    Some(again)
-}
-
-/// An engine, and whether it was made again.
-fn engine_in_two(alloc: Global) -> Option<(Engine<MemStore, MemDevice>, bool)> {
-    match new_engine(alloc) {
-        Some(engine) => Some((engine, false)),
-        None => Some((new_engine(alloc)?, true)),
     }
 }
 
-/// Makes the calls of a row, and tells whether one was made again; None at a wrong reply.
-fn call_each(engine: &mut Engine<MemStore, MemDevice>, row: &[(Event, Reply)]) -> Option<bool> {
-    let mut again = false;
-    for (event, reply) in row {
-        let (given, was_refused) = call(engine, event);
-        if given != *reply {
-            return None;
+/// Makes the calls, one by one, and puts a line for each reply.
+fn call_each(
+    engine: &mut Engine<MemStore, MemDevice>,
+    events: &[Event],
+    replies: &mut Vec<Reply>,
+    told: &mut Told,
+) -> Option<()> {
+    for event in events {
+        let mut reply = engine.apply(*event);
+        if reply == Err(Refusal::OutOfMemory) {
+            told.again = true;
+            reply = engine.apply(*event);
         }
-        again = again || was_refused;
+        replies.push(reply).ok()?;
+        let line = ReplyLine(reply);
+        writeln!(told.text, "{line}").ok()?;
     }
-    Some(change_each_slot(engine)? || again)
+    Some(())
 }
 
-/// Loads the last copy, and tells whether it was loaded again; None at another refusal.
-fn load_in_two(alloc: Global, retired: Retired) -> Option<(Loaded, bool)> {
-    match load(alloc, retired, CopyId(2), usize::MAX) {
-        Ok(loaded) => Some((loaded, false)),
+/// Does a restore, and puts a line for each page, or that of its refusal.
+fn put_restore(
+    rt: &(impl Threads + Sync),
+    alloc: Global,
+    retired: Retired,
+    restore: Option<LastRestore>,
+    told: &mut Told,
+) -> Option<()> {
+    let Some(last) = restore else {
+        return Some(());
+    };
+    match restored(rt, alloc, retired, last, told) {
+        Ok(undone) => {
+            for page in undone.pages() {
+                put_page(&mut told.text, page).ok()?;
+            }
+            Some(())
+        }
+        Err(why) => writeln!(told.text, "{why}").ok(),
+    }
+}
+
+fn restored(
+    rt: &(impl Threads + Sync),
+    alloc: Global,
+    retired: Retired,
+    last: LastRestore,
+    told: &mut Told,
+) -> Result<Undone, Refused> {
+    let loaded = load_in_two(alloc, retired, last, told).map_err(|fault| Refused::Load(fault))?;
+    let redone = redo_in_two(rt, alloc, loaded, told).map_err(|fault| Refused::Redo(fault))?;
+    undo_in_two(redone, told).map_err(|fault| Refused::Undo(fault))
+}
+
+/// Loads a copy, at the first try or at the second one.
+fn load_in_two(
+    alloc: Global,
+    retired: Retired,
+    LastRestore { copy, cut }: LastRestore,
+    told: &mut Told,
+) -> Result<Loaded, LoadFault> {
+    let cut = match cut {
+        Some(cut) => cut as usize,
+        None => usize::MAX,
+    };
+    match load(alloc, retired, copy, cut) {
+        Ok(loaded) => Ok(loaded),
         Err((retired, LoadFault::OutOfMemory)) => {
-            let loaded = load(alloc, retired, CopyId(2), usize::MAX).ok()?;
-            Some((loaded, true))
+            told.again = true;
+            load(alloc, retired, copy, cut).map_err(|(_, fault)| fault)
         }
-        Err(_) => None,
+        Err((_, fault)) => Err(fault),
     }
 }
 
-/// Redoes the log, and tells whether it was redone again.
+/// Redoes the log, at the first try or at the second one.
 fn redo_in_two(
     rt: &(impl Threads + Sync),
     alloc: Global,
     loaded: Loaded,
-) -> Option<(Redone, bool)> {
+    told: &mut Told,
+) -> Result<Redone, RedoFault> {
     match loaded.redo(rt, alloc) {
-        Ok(redone) => Some((redone, false)),
-        Err((loaded, RedoFault::OutOfMemory)) => Some((loaded.redo(rt, alloc).ok()?, true)),
+        Ok(redone) => Ok(redone),
+        Err((loaded, RedoFault::OutOfMemory)) => {
+            told.again = true;
+            loaded.redo(rt, alloc).map_err(|(_, fault)| fault)
+        }
     }
 }
 
-/// Undoes the log, and tells whether it was undone again; None at another refusal.
-fn undo_in_two(redone: Redone) -> Option<(Undone, bool)> {
+/// Undoes the log, at the first try or at the second one.
+fn undo_in_two(redone: Redone, told: &mut Told) -> Result<Undone, UndoFault> {
     match undo_all(redone) {
-        Ok(undone) => Some((undone, false)),
-        Err((redone, UndoFault::OutOfMemory)) => Some((undo_all(redone).ok()?, true)),
-        Err(_) => None,
+        Ok(undone) => Ok(undone),
+        Err((redone, UndoFault::OutOfMemory)) => {
+            told.again = true;
+            undo_all(redone).map_err(|(_, fault)| fault)
+        }
+        Err((_, fault)) => Err(fault),
     }
 }
 
-/// Whether there is one page, with this LSN, these numbers in its first two slots, and this one in
-/// each other slot.
-fn is_page(pages: &[Page], lsn: u64, front: [u64; 2], other: u64) -> bool {
-    let mut slots = [other; 62];
-    slots[0] = front[0];
-    slots[1] = front[1];
-    let page = Page {
-        number: PageNo(0),
-        lsn: Lsn(lsn),
-        slots,
-    };
-    pages.len() == 1 && pages[0] == page
-}
-
-/// Restores the last copy, and tells whether a call was made again; None at a wrong page.
-fn restore(rt: &(impl Threads + Sync), alloc: Global, retired: Retired) -> Option<bool> {
-    let (loaded, load_again) = load_in_two(alloc, retired)?;
-    let (redone, redo_again) = redo_in_two(rt, alloc, loaded)?;
-    if !is_page(redone.pages(), 4928, [10, 8], 1) {
-        return None;
+/// Plays the events as one list, at the first try or at the second one, and puts a line where the
+/// replies are others.
+fn put_list(
+    alloc: Global,
+    setup: Setup,
+    events: &[Event],
+    replies: &[Reply],
+    told: &mut Told,
+) -> Option<()>
+    requires pages { IsPageCount setup.pages }
+    requires frames { IsFrameCount setup.frames }
+{
+    let mut given = replies_to(alloc, setup, events);
+    if given.is_none() {
+        told.again = true;
+        given = replies_to(alloc, setup, events);
     }
-    let (undone, undo_again) = undo_in_two(redone)?;
-    let is_undone = undone.records().len() == 140 && is_page(undone.pages(), 8896, [9, 7], 0);
-    drop(undone);
-    if is_undone {
-        Some(load_again || redo_again || undo_again)
-    } else {
-        None
+    match given {
+        Some(given) if given.as_slice() == replies => Some(()),
+        _ => told.text.push_str("the list is answered otherwise\n").ok(),
     }
-}
-
-/// Makes the calls one by one, restores a copy, and tells whether a call was made again; None at a
-/// wrong reply or page.
-fn call_row(rt: &(impl Threads + Sync), alloc: Global, row: &[(Event, Reply)]) -> Option<bool> {
-    let (mut engine, made_again) = engine_in_two(alloc)?;
-    let called_again = call_each(&mut engine, row);
-    let restored_again = restore(rt, alloc, engine.retire());
-    Some(made_again || called_again? || restored_again?)
-}
-
-fn events_of(alloc: Global, row: &[(Event, Reply)]) -> Option<Vec<Event>> {
-    let mut events = Vec::with_capacity(alloc, row.len()).ok()?;
-    for &(event, _) in row {
-        events.push(event).ok()?;
-    }
-    Some(events)
-}
-
-/// Plays these events on a new engine.
-fn replies_of(alloc: Global, events: &[Event]) -> Option<Vec<Reply>> {
-    let store = MemStore::new(alloc, 1).ok()?;
-    let device = MemDevice::new(alloc, 14).ok()?;
-    let Played { replies, engine } = play(alloc, SETUP, store, device, events).ok()?;
-    drop(engine);
-    Some(replies)
-}
-
-/// Whether no reply tells that memory was refused.
-fn had_memory(replies: &[Reply]) -> bool {
-    replies
-        .iter()
-        .all(|reply| *reply != Err(Refusal::OutOfMemory))
 }
 
 /// The replies to the events as one list; None where memory was refused.
-fn replies_to(alloc: Global, row: &[(Event, Reply)]) -> Option<Vec<Reply>> {
-    let events = events_of(alloc, row)?;
-    let replies = replies_of(alloc, &events)?;
-    if had_memory(&replies) {
-        Some(replies)
-    } else {
-        None
-    }
-}
-
-/// Plays the events, and tells whether they were played again; None at a wrong reply.
-fn play_row(alloc: Global, row: &[(Event, Reply)]) -> Option<bool> {
-    let mut again = false;
-    let replies = match replies_to(alloc, row) {
-        Some(replies) => replies,
-        None => {
-            again = true;
-            replies_to(alloc, row)?
-        }
-    };
-    if replies.len() != row.len() {
+fn replies_to(alloc: Global, setup: Setup, events: &[Event]) -> Option<Vec<Reply>>
+    requires pages { IsPageCount setup.pages }
+    requires frames { IsFrameCount setup.frames }
+{
+    let store = MemStore::new(alloc, setup.pages).ok()?;
+    let device = MemDevice::new(alloc, events.len()).ok()?;
+    let Played { replies, engine } = play(alloc, setup, store, device, events).ok()?;
+    drop(engine);
+    if replies
+        .iter()
+        .any(|reply| *reply == Err(Refusal::OutOfMemory))
+    {
         return None;
     }
-    for (&given, &(_, reply)) in replies.iter().zip(row) {
-        if given != reply {
-            return None;
-        }
-    }
-    Some(again)
-}
-
-fn make_both(rt: &(impl Threads + Sync), alloc: Global) -> Option<bool> {
-    let row = row();
-    let called = call_row(rt, alloc, &row)?;
-    let played = play_row(alloc, &row)?;
-    Some(called || played)
-}
-
-/// Makes the calls one by one and as a list, restores a copy, and reports the results.
-pub fn told_of_calls(rt: &(impl Threads + Sync), alloc: Global) -> &'static str {
-    match make_both(rt, alloc) {
-        Some(true) => "a call was made again",
-        Some(false) => "each call was made once",
-        None => "a reply or a page is wrong",
-    }
+    Some(replies)
 }

@@ -4,12 +4,13 @@ ghost use Rattle.std.specs.Prelude.{IfSome};
 ghost use Rattle.log_rules.specs.Checkpoint.{IsCompleteCheckpoint};
 ghost use Rattle.log_rules.specs.Linked.{IsLinked};
 
+use crate::lines::put_page;
 use aries_core::{Played, Setup, play};
 use copy_coverage::Retired;
 use event_script::{Script, read_script};
 use log_store::{LogImage, Master, MemDevice};
 use loser_undo::losers;
-use page_core::{Lsn, Page, formatted_pages};
+use page_core::{Lsn, formatted_pages};
 use page_redo::{by_page, redo_by_page};
 use page_store::MemStore;
 use std::alloc::{AllocError, Global};
@@ -92,20 +93,9 @@ fn put_pages(
         redo_by_page(rt, &mut pages, log.records(), &lists);
     }
     for page in &pages {
-        put_page(text, page)?;
-    }
-    Ok(())
-}
-
-fn put_page(text: &mut String, page: &Page) -> Result<(), AllocError> {
-    if page.lsn == Lsn(0) {
-        return Ok(());
-    }
-    write!(text, "page {} lsn {}", page.number.0, page.lsn.0)?;
-    for (slot, value) in page.slots.iter().enumerate() {
-        if *value != 0 {
-            write!(text, " {slot}={value}")?;
+        if page.lsn != Lsn(0) {
+            put_page(text, page)?;
         }
     }
-    text.push_str("\n")
+    Ok(())
 }
