@@ -1,16 +1,30 @@
--- Pages in slots, and how one is found by its number.
+-- Pages in slots under their numbers, and how one is found.
 use Rattle.std.proofs.Common.{◌≡◌, ◌≢◌, ℕ, zero, suc, ◌+◌, ◌<◌, ◌≤◌, Bool, true, false, cond, ◌||◌, List, [], ◌∷◌, ◌++◌}
-use Rattle.std.proofs.Common.{◌-◌, ◌*◌, length, get_or, map, replicate, set, refl, sym, ap, subst, ◌∙◌, arith, nat_eq, inl, inr, true≢false}
-use Rattle.std.specs.Prelude.{◌==◌, Option, Some, None, IfSome, IsSome, slice_get}
-use Rattle.std.specs.List.{All, AllByRecursion, Contains, IsDistinct, list_any}
+use Rattle.std.proofs.Common.{◌*◌, length, get_or, map, set, swap, refl, sym, ap, subst, ◌∙◌, arith, nat_eq, inl, inr, true≢false}
+use Rattle.std.specs.Prelude.{◌==◌, Option, Some, None, IfSome, IsSome, is_some, position, slice_get}
+use Rattle.std.specs.Cmp.{nat_eq_equiv}
+use Rattle.std.specs.List.{All, Contains, IsDistinct, filter, list_any}
+use Rattle.std.specs.Map.{keys_of, lookup, values_of}
 use Rattle.std.specs.Option.{option_map, option_map_or}
 use Rattle.std.proofs.lemmas.Bool.{cases_eq, cases_lt, eq-eqb, eqb-true, ne_eqb}
 use Rattle.std.proofs.Math.Bool.{or-true}
+use Rattle.std.proofs.lemmas.Option.{get_or_from_slice_get, none-some, same_Some, slice_get-get_or, slice_get-map, slice_get_within}
+use Rattle.std.proofs.lemmas.List.{get_or-map, get_or-set_other, get_or-set_same, get_or_append_left, get_or_default, get_or_push}
+use Rattle.std.proofs.lemmas.List.{length-map, length-set, length_push, map-append, map-set, same_lists}
+use Rattle.std.proofs.lemmas.List.{set-append_left, set-get_or}
+use Rattle.std.proofs.lemmas.List.Edits.{swap_is}
+use Rattle.std.proofs.lemmas.List.Elements.{All-cons, All-contains, All-filter, All-head, All-map, All-push, All-set, All-tail}
+use Rattle.std.proofs.lemmas.List.Elements.{All-weaker, filter_passes}
+use Rattle.std.proofs.lemmas.List.Folds.{list_any_at}
+use Rattle.std.proofs.lemmas.List.Quantifiers.{position-Some}
+use Rattle.std.proofs.lemmas.Map.Entries.{length-keys_of, length-values_of}
+use Rattle.std.proofs.lemmas.Map.Keys.{apart_from_distinct}
+use Rattle.std.proofs.lemmas.Map.Made.{IsDistinct-keys_filter}
 use Rattle.std.proofs.lemmas.Map.Steps.{length-le_from_distinct_below}
-use Rattle.std.proofs.lemmas.Option.{none-some, same_Some, slice_get-get_or, slice_get_past, slice_get_within}
-use Rattle.std.proofs.lemmas.List.{get_or-map, get_or-set_other, get_or_append_left, get_or_push, length-map, length-set}
-use Rattle.std.proofs.lemmas.List.Elements.{All-cons, All-nil}
-use Rattle.std.proofs.lemmas.List.{length-append, length-replicate, length_push, same_lists}
+use Rattle.indexmap.specs.IndexMap.{set_value_at}
+use Rattle.indexmap.proofs.CallerLemmas.{Contains-list_any}
+use Rattle.indexmap.proofs.MapLemmas.{index-first}
+use Rattle.indexmap.proofs.RemoveLemmas.{own_first}
 use Rattle.page_core.specs.declared.page.Page.{Page}
 use Rattle.page_core.specs.declared.page.TheConstants.{MAX_PAGES}
 use Rattle.page_core.specs.Page.{put}
@@ -20,11 +34,11 @@ use Rattle.log_records.specs.Image.{with_change, with_record}
 use Rattle.log_records.specs.Record.{change_of, own_lsn}
 use Rattle.log_records.proofs.Public.{number-with_record}
 use Rattle.buffer_pool.specs.Frames.{is_resident}
-use Rattle.buffer_pool.specs.Slots.{AreCounted, AreNoted, ArePlaced, IsPlace, pages_in}
+use Rattle.buffer_pool.specs.Slots.{AreCounted, AreUnderNumbers, IsPlace, IsUnder, IsUnderNumber, pages_in}
+use Rattle.buffer_pool.proofs.Holes.{none_found}
 
--- the numbers of pages
-abbrev pub numbers : List Page → List ℕ
-numbers pages = map (λ page. page.number) pages
+abbrev pub Entry : Type 0
+Entry = ℕ × Option Page
 
 -- the record redone on what stands in a slot
 abbrev pub redone : Record → Option Page → Option Page
@@ -32,15 +46,10 @@ redone next slot = option_map (λ page. with_record page next) slot
 
 -- ---- slots that have pages
 
-pub within_some : {X : Type 0} (xs : List (Option X)) (k : ℕ) → IsSome (get_or xs k None) → k < length xs
+within_some : {X : Type 0} (xs : List (Option X)) (k : ℕ) → IsSome (get_or xs k None) → k < length xs
 within_some [] k some = absurd (cc)
 within_some (x ∷ xs) zero some = omega arith
 within_some (x ∷ xs) (suc k) some = let lt = within_some xs k some in omega (arith, lt)
-
-pub within_at : {X : Type 0} (xs : List (Option X)) (k : ℕ) (x : X) → get_or xs k None ≡ Some x → k < length xs
-within_at [] k x at = absurd (cc)
-within_at (y ∷ xs) zero x at = omega arith
-within_at (y ∷ xs) (suc k) x at = let lt = within_at xs k x at in omega (arith, lt)
 
 -- the page of a slot is resident
 pub resident_at : (slots : List (Option Page)) (k : ℕ) (page : Page) → get_or slots k None ≡ Some page
@@ -75,255 +84,258 @@ absent_from n (Some page ∷ slots) none =
     ap (λ (b : Bool). b || is_resident (pages_in slots) n) (ne_eqb page.number n (none 0 page refl))
     ∙ absent_from n slots (λ k page at. none (suc k) page at)
 
--- what holds of the number of each page in a slot holds of all numbers
-all_numbers : (P : ℕ → Type 0) (slots : List (Option Page))
-    → ((k : ℕ) (page : Page) → get_or slots k None ≡ Some page → P page.number)
-    → AllByRecursion P (numbers (pages_in slots))
-all_numbers P [] each = tt
-all_numbers P (None ∷ slots) each = all_numbers P slots (λ k page at. each (suc k) page at)
-all_numbers P (Some page ∷ slots) each = (each 0 page refl, all_numbers P slots (λ k page at. each (suc k) page at))
-
-of_numbers : (P : ℕ → Type 0) (slots : List (Option Page)) (k : ℕ) (page : Page)
-    → AllByRecursion P (numbers (pages_in slots)) → get_or slots k None ≡ Some page → P page.number
-of_numbers P [] k page all at = absurd (cc)
-of_numbers P (None ∷ slots) zero page all at = absurd (cc)
-of_numbers P (Some q ∷ slots) zero page all at = subst (λ (x : Page). P x.number) (same_Some q page at) all.0
-of_numbers P (None ∷ slots) (suc k) page all at = of_numbers P slots k page all at
-of_numbers P (Some q ∷ slots) (suc k) page all at = of_numbers P slots k page all.1 at
-
--- ---- the place of a page
-
--- what a look into the places gives
-pub said : (places ys : List ℕ) (n i x : ℕ) → ys ≡ places → i ≡ n → (i < length ys) × ((d : ℕ) → x ≡ get_or ys i d)
-    → slice_get places n ≡ Some x
-said places ys n i x same at is =
-    ap (slice_get places) (sym at) ∙ ap (λ (zs : List ℕ). slice_get zs i) (sym same)
-    ∙ slice_get-get_or ys i x is.0 ∙ ap Some (sym (is.1 x))
-
-pub unsaid : (places ys : List ℕ) (n i : ℕ) → ys ≡ places → i ≡ n → length ys ≤ i → slice_get places n ≡ None
-unsaid places ys n i same at past =
-    ap (slice_get places) (sym at) ∙ ap (λ (zs : List ℕ). slice_get zs i) (sym same) ∙ slice_get_past ys i past
-
--- the page that is found where its number says
-pub place_found : (slots : List (Option Page)) (places : List ℕ) (n place : ℕ) (page : Page) → AreNoted slots places
-    → slice_get places n ≡ Some place → get_or slots place None ≡ Some page → page.number ≡ n → IsPlace slots n place
-place_found slots places n place page noted says at number = record {
-  here = (page, (at, number));
-  only = λ k q there same.
-      same_Some k place (sym (noted k q there) ∙ ap (slice_get places) same ∙ says);
-}
-
-pub resident_there : (slots : List (Option Page)) (n place : ℕ) → IsPlace slots n place
-    → is_resident (pages_in slots) n ≡ true
-resident_there slots n place is =
-    ap (is_resident (pages_in slots)) (sym is.here.1.1) ∙ resident_at slots place is.here.0 is.here.1.0
-
--- no page has a number that has no place
-pub no_place : (slots : List (Option Page)) (places : List ℕ) (n : ℕ) → AreNoted slots places
-    → slice_get places n ≡ None → is_resident (pages_in slots) n ≡ false
-no_place slots places n noted none =
-    absent_from n slots (λ k page at same.
-    none-some k (sym none ∙ ap (slice_get places) (sym same) ∙ noted k page at))
-
--- nor one at whose place another page stands, or none
-pub not_there : (slots : List (Option Page)) (places : List ℕ) (n place : ℕ) → AreNoted slots places
-    → slice_get places n ≡ Some place → ((page : Page) → get_or slots place None ≡ Some page → page.number ≢ n)
-    → is_resident (pages_in slots) n ≡ false
-not_there slots places n place noted says other =
-    absent_from n slots (λ k page at same.
-    let here : k ≡ place = same_Some k place (sym (noted k page at) ∙ ap (slice_get places) same ∙ says) in
-    other page (ap (λ (i : ℕ). get_or slots i None) (sym here) ∙ at) same)
-
--- ---- so many pages
-
-apart_from : (base : ℕ) (slots : List (Option Page)) (places : List ℕ)
-    → ((k : ℕ) (page : Page) → get_or slots k None ≡ Some page → slice_get places page.number ≡ Some (base + k))
-    → IsDistinct nat_eq (numbers (pages_in slots))
-unfolding IsDistinct
-apart_from base [] places noted = tt
-apart_from base (None ∷ slots) places noted =
-    apart_from (base + 1) slots places (λ k page at.
-    let next : base + suc k ≡ base + 1 + k = omega arith in noted (suc k) page at ∙ ap Some next)
-apart_from base (Some page ∷ slots) places noted = (
-  all_numbers (λ m. nat_eq page.number m ≡ false) slots
-      (λ k q at. ne_eqb page.number q.number (λ same.
-      let one : base + 0 ≡ base + suc k =
-      same_Some (base + 0) (base + suc k)
-      (sym (noted 0 page refl) ∙ ap (slice_get places) same ∙ noted (suc k) q at) in
-      let no : ⊥ = omega (arith, one) in no)),
-  apart_from (base + 1) slots places (λ k q at.
-      let next : base + suc k ≡ base + 1 + k = omega arith in noted (suc k) q at ∙ ap Some next),
-)
-
--- no two pages have one number
-pub apart : (slots : List (Option Page)) (places : List ℕ) → AreNoted slots places
-    → IsDistinct nat_eq (numbers (pages_in slots))
-apart slots places noted =
-    apart_from 0 slots places (λ k page at. let same : k ≡ 0 + k = omega arith in noted k page at ∙ ap Some same)
-
-pub one_slot : (slots : List (Option Page)) (j k : ℕ) (p q : Page) → IsDistinct nat_eq (numbers (pages_in slots))
-    → get_or slots j None ≡ Some p → get_or slots k None ≡ Some q → p.number ≡ q.number → j ≡ k
-unfolding IsDistinct
-one_slot [] j k p q distinct at there same = absurd (cc)
-one_slot (None ∷ slots) zero k p q distinct at there same = absurd (cc)
-one_slot (None ∷ slots) (suc j) zero p q distinct at there same = absurd (cc)
-one_slot (None ∷ slots) (suc j) (suc k) p q distinct at there same = ap suc (one_slot slots j k p q distinct at there same)
-one_slot (Some page ∷ slots) zero zero p q distinct at there same = refl
-one_slot (Some page ∷ slots) zero (suc k) p q distinct at there same =
-    absurd (true≢false (sym (eq-eqb page.number q.number (ap (λ (x : Page). x.number) (same_Some page p at) ∙ same))
-    ∙ of_numbers (λ m. nat_eq page.number m ≡ false) slots k q distinct.0 there))
-one_slot (Some page ∷ slots) (suc j) zero p q distinct at there same =
-    absurd (true≢false (sym (eq-eqb page.number p.number
-    (ap (λ (x : Page). x.number) (same_Some page q there) ∙ sym same))
-    ∙ of_numbers (λ m. nat_eq page.number m ≡ false) slots j p distinct.0 at))
-one_slot (Some page ∷ slots) (suc j) (suc k) p q distinct at there same =
-    ap suc (one_slot slots j k p q distinct.1 at there same)
-
--- each number has a place
-all_within : (slots : List (Option Page)) (places : List ℕ) → AreNoted slots places
-    → AllByRecursion (λ m. m < length places) (numbers (pages_in slots))
-all_within slots places noted =
-    all_numbers (λ m. m < length places) slots (λ k page at. slice_get_within places page.number k (noted k page at))
-
-pub pages_within : (slots : List (Option Page)) (places : List ℕ) → AreNoted slots places
-    → All (λ page. page.number < length places) (pages_in slots)
-pages_within slots places noted = by (pages_in slots) (all_within slots places noted)
-  where
-    by : (pages : List Page) → AllByRecursion (λ m. m < length places) (numbers pages)
-        → All (λ page. page.number < length places) pages
-    by [] all = All-nil (λ (page : Page). page.number < length places)
-    by (page ∷ pages) all =
-        All-cons (λ (q : Page). q.number < length places) page pages all.0 (by pages all.1)
-
-below : (xs : List ℕ) (n q : ℕ) → AllByRecursion (λ m. m < n) xs → list_any (nat_eq q) xs ≡ true → q < n
-below [] n q all any = absurd (cc)
-below (x ∷ xs) n q all any = by (nat_eq q x) refl any (below xs n q all.1)
-  where
-    by : (b : Bool) → nat_eq q x ≡ b → (b || list_any (nat_eq q) xs) ≡ true → (list_any (nat_eq q) xs ≡ true → q < n)
-        → q < n
-    by true same any rest = omega (arith, eqb-true q x same, all.0)
-    by false other any rest = rest any
-
--- there are no more pages than places
-pub pages_few : (slots : List (Option Page)) (places : List ℕ) → AreNoted slots places
-    → length (pages_in slots) ≤ length places
-pages_few slots places noted =
-    let ns : List ℕ = numbers (pages_in slots) in
-    let few : length ns ≤ length places =
-    length-le_from_distinct_below ns (length places) (apart slots places noted)
-    (λ q any. below ns (length places) q (all_within slots places noted) any) in
-    omega (arith, few, length-map (pages_in slots) (λ (page : Page). page.number))
-
--- and few slots
-pub slots_few : (count room : ℕ) (slots : List (Option Page)) (places : List ℕ) → ArePlaced slots places room
-    → AreCounted count slots → length slots ≤ 2 * MAX_PAGES + 1
-slots_few count room slots places placed counted =
-    let pages = pages_few slots places placed.noted in omega (arith, pages, placed.few, counted.holes)
-
 -- nor are there more pages than slots
 pub pages_most : (slots : List (Option Page)) → length (pages_in slots) ≤ length slots
 pages_most [] = omega arith
 pages_most (None ∷ slots) = let le = pages_most slots in omega (arith, le)
 pages_most (Some page ∷ slots) = let le = pages_most slots in omega (arith, le)
 
--- ---- places that are noted
+-- ---- entries
 
-pub other_place : (xs : List ℕ) (i j v : ℕ) → j ≢ i → slice_get (set xs i v) j ≡ slice_get xs j
-other_place [] i j v other = refl
-other_place (x ∷ xs) zero zero v other = absurd (other refl)
-other_place (x ∷ xs) zero (suc j) v other = refl
-other_place (x ∷ xs) (suc i) zero v other = refl
-other_place (x ∷ xs) (suc i) (suc j) v other = other_place xs i j v (λ same. other (ap suc same))
+-- what stands in the slot of an entry
+pub value_at : (es : List Entry) (i : ℕ) (e : Entry) → slice_get es i ≡ Some e → get_or (values_of es) i None ≡ e.1
+value_at [] i e at = absurd (cc)
+value_at (x ∷ es) zero e at = ap (λ (y : Entry). y.1) (same_Some x e at)
+value_at (x ∷ es) (suc i) e at = value_at es i e at
 
-pub this_place : (xs : List ℕ) (i v : ℕ) → i < length xs → slice_get (set xs i v) i ≡ Some v
-this_place [] i v lt = let no : ⊥ = omega (arith, lt) in absurd no
-this_place (x ∷ xs) zero v lt = refl
-this_place (x ∷ xs) (suc i) v lt = this_place xs i v (omega (arith, lt))
+-- a slot that is written
+set_is : (es : List Entry) (i : ℕ) (e : Entry) (slot : Option Page) → slice_get es i ≡ Some e
+    → set_value_at es i slot ≡ set es i (e.0, slot)
+set_is [] i e slot at = refl
+set_is (x ∷ es) zero e slot at = ap (λ (y : Entry). (y.0, slot) ∷ es) (same_Some x e at)
+set_is (x ∷ es) (suc i) e slot at = ap (λ (ys : List Entry). x ∷ ys) (set_is es i e slot at)
 
-pub place_stays : (xs ys : List ℕ) (j k : ℕ) → slice_get xs j ≡ Some k → slice_get (xs ++ ys) j ≡ Some k
-place_stays [] ys j k at = absurd (cc)
-place_stays (x ∷ xs) ys zero k at = at
-place_stays (x ∷ xs) ys (suc j) k at = place_stays xs ys j k at
+pub values_set : (es : List Entry) (i : ℕ) (slot : Option Page)
+    → values_of (set_value_at es i slot) ≡ set (values_of es) i slot
+values_set [] i slot = refl
+values_set (e ∷ es) zero slot = refl
+values_set (e ∷ es) (suc i) slot = ap (λ (ss : List (Option Page)). e.1 ∷ ss) (values_set es i slot)
 
--- a page comes in behind the others, and its place is noted
-pub noted_more : (slots : List (Option Page)) (places more : List ℕ) (page : Page) → AreNoted slots places
-    → is_resident (pages_in slots) page.number ≡ false → page.number < length (places ++ more)
-    → AreNoted (slots ++ Some page ∷ []) (set (places ++ more) page.number (length slots))
-noted_more slots places more page noted absent there = λ k q at. elim (cases_lt k (length slots)) [
-  | inl before ↦
-      let old : get_or slots k None ≡ Some q = sym (get_or_append_left slots (Some page ∷ []) None k before) ∙ at in
-      other_place (places ++ more) page.number q.number (length slots)
-      (λ same. true≢false (sym (resident_at slots k q old) ∙ ap (is_resident (pages_in slots)) same ∙ absent))
-      ∙ place_stays places more q.number k (noted k q old)
-  | inr after ↦
-      let lt = within_at (slots ++ Some page ∷ []) k q at in
-      let last : length slots ≡ k = omega (arith, lt, after, length_push slots (Some page)) in
-      let is : page ≡ q = same_Some page q (sym (get_or_push slots (Some page) None k last) ∙ at) in
-      ap (slice_get (set (places ++ more) page.number (length slots))) (ap (λ (x : Page). x.number) (sym is))
-      ∙ this_place (places ++ more) page.number (length slots) there ∙ ap Some last
-]
+under_set : (es : List Entry) (i : ℕ) (slot : Option Page) → i < length es → AreUnderNumbers es
+    → ((b : ℕ) (e : Entry) → slice_get es i ≡ Some e → IsUnderNumber b e → IsUnderNumber b (e.0, slot))
+    → AreUnderNumbers (set_value_at es i slot)
+under_set es i slot lt all here =
+    let e = get_or es i (0, None) in
+    let at = slice_get-get_or es i (0, None) lt in
+    let b = MAX_PAGES + length es in
+    subst AreUnderNumbers (sym (set_is es i e slot at))
+    (subst (λ (n : ℕ). All (IsUnderNumber (MAX_PAGES + n)) (set es i (e.0, slot))) (sym (length-set es i (e.0, slot)))
+    (All-set (IsUnderNumber b) es i (e.0, slot) (here b e at (all i (0, None) lt)) all))
 
-pub placed_more : (slots : List (Option Page)) (places after : List ℕ) (old room n len : ℕ) (page : Page)
-    → ArePlaced slots places old → is_resident (pages_in slots) page.number ≡ false → n ≡ page.number → n < MAX_PAGES
-    → after ≡ places ++ replicate (n + 1 - length places) 0 → len ≡ length slots → room ≡ old
-    → ArePlaced (slots ++ Some page ∷ []) (set after n len) room
-placed_more slots places after old room n len page placed absent same low grown last kept =
-    let more : List ℕ = replicate (n + 1 - length places) 0 in
-    let long : length (places ++ more) ≡ length places + (n + 1 - length places) =
-    length-append places more ∙ ap (λ (k : ℕ). length places + k) (length-replicate (n + 1 - length places) 0) in
-    let is : set (places ++ more) page.number (length slots) ≡ set after n len =
-    ap (λ (xs : List ℕ). set xs page.number (length slots)) (sym grown)
-    ∙ ap (λ (i : ℕ). set after i (length slots)) (sym same) ∙ ap (set after n) (sym last) in
-    record {
-      noted = subst (AreNoted (slots ++ Some page ∷ [])) is
-          (noted_more slots places more page placed.noted absent (omega (arith, long, same)));
-      few = omega (arith, length-set after n len, ap (length {A = ℕ}) grown, long, low, placed.few);
-      reserved = omega (arith, kept, placed.reserved);
-    }
+-- a page is taken out
+pub under_less : (es : List Entry) (i : ℕ) (slot : Option Page) → IsSome (get_or (values_of es) i None) → slot ≡ None
+    → AreUnderNumbers es → AreUnderNumbers (set_value_at es i slot)
+under_less es i slot some none all =
+    let lt : i < length es = omega (arith, within_some (values_of es) i some, length-values_of es) in
+    subst (λ (o : Option Page). AreUnderNumbers (set_value_at es i o)) (sym none)
+    (under_set es i None lt all (λ b e at under. record { below = under.below; own = tt }))
 
--- before this slot each page is noted
-abbrev pub AreNotedTo : List (Option Page) → List ℕ → ℕ → Type 0
-AreNotedTo slots places i = (k : ℕ) (page : Page) → k < i → get_or slots k None ≡ Some page
-    → slice_get places page.number ≡ Some k
+-- ---- a page in its place
 
-pub noted_here : (slots : List (Option Page)) (places : List ℕ) (i n : ℕ) (page : Page)
-    → IsDistinct nat_eq (numbers (pages_in slots)) → get_or slots i None ≡ Some page → n ≡ page.number
-    → n < length places → AreNotedTo slots places i → AreNotedTo slots (set places n i) (i + 1)
-noted_here slots places i n page distinct here number there noted = λ k q lt at. elim (cases_eq k i) [
-  | inl same ↦
-      let is : page ≡ q =
-      same_Some page q (sym here ∙ ap (λ (j : ℕ). get_or slots j None) (sym same) ∙ at) in
-      ap (slice_get (set places n i)) (ap (λ (x : Page). x.number) (sym is) ∙ sym number)
-      ∙ this_place places n i there ∙ ap Some (sym same)
-  | inr other ↦
-      other_place places n q.number i
-      (λ same. other (one_slot slots k i q page distinct at here (same ∙ number)))
-      ∙ noted k q (omega (arith, lt, other)) at
-]
+-- the entry of a page
+entry_at : (b : ℕ) (es : List Entry) (k : ℕ) (page : Page) → All (IsUnderNumber b) es
+    → get_or (values_of es) k None ≡ Some page → slice_get es k ≡ Some (page.number, Some page)
+entry_at b [] k page all at = absurd (cc)
+entry_at b (e ∷ es) zero page all at =
+    let own = subst (λ (o : Option Page). IfSome o (IsUnder e.0)) at (All-head (IsUnderNumber b) e es all).own in
+    ap (λ (n : ℕ). Some (n, e.1)) (sym own.0) ∙ ap (λ (o : Option Page). Some (page.number, o)) at
+entry_at b (e ∷ es) (suc k) page all at = entry_at b es k page (All-tail (IsUnderNumber b) e es all) at
 
-pub noted_hole : (slots : List (Option Page)) (places : List ℕ) (i : ℕ) → get_or slots i None ≡ None
-    → AreNotedTo slots places i → AreNotedTo slots places (i + 1)
-noted_hole slots places i here noted = λ k q lt at. elim (cases_eq k i) [
-  | inl same ↦
-      absurd (none-some q (sym here ∙ ap (λ (j : ℕ). get_or slots j None) (sym same) ∙ at))
-  | inr other ↦ noted k q (omega (arith, lt, other)) at
-]
+-- what a search in the map says
+pub sought : (ks : List ℕ) (i n : ℕ) (r s : Option ℕ) → i ≡ n → r ≡ position (nat_eq i) ks → r ≡ s
+    → position (nat_eq n) ks ≡ s
+sought ks i n r s same is says = ap (λ (m : ℕ). position (nat_eq m) ks) (sym same) ∙ sym is ∙ says
 
--- a slot whose page goes needs no note
-pub noted_less : (slots : List (Option Page)) (places : List ℕ) (place : ℕ) → AreNoted slots places
-    → AreNoted (set slots place None) places
-noted_less slots places place noted = λ k q at. elim (cases_eq k place) [
-  | inl same ↦ absurd (gone slots k place q same at)
-  | inr other ↦ noted k q (sym (get_or-set_other slots place k None None other) ∙ at)
-]
+module _ (es : List Entry) (n : ℕ) (all : AreUnderNumbers es) (distinct : IsDistinct nat_eq (keys_of es)) where
+  found_at : (k : ℕ) (page : Page) → get_or (values_of es) k None ≡ Some page → page.number ≡ n
+      → position (nat_eq n) (keys_of es) ≡ Some k
+  found_at k page at same =
+      subst (λ (m : ℕ). position (nat_eq m) (keys_of es) ≡ Some k) same
+      (index-first (nat_eq page.number) es k (own_first nat_eq nat_eq_equiv es k page.number (Some page) distinct
+      (entry_at (MAX_PAGES + length es) es k page all at)))
+
+  -- a page of a number that is not found is not there
+  pub no_place : position (nat_eq n) (keys_of es) ≡ None → is_resident (pages_in (values_of es)) n ≡ false
+  no_place none = absent_from n (values_of es) (λ k page at same. none-some k (sym none ∙ found_at k page at same))
+
+  module _ (place : ℕ) (found : position (nat_eq n) (keys_of es) ≡ Some place) where
+    -- one of a number that is found stands nowhere else
+    pub only_there : (k : ℕ) (page : Page) → get_or (values_of es) k None ≡ Some page → page.number ≡ n → k ≡ place
+    only_there k page at same = same_Some k place (sym (found_at k page at same) ∙ found)
+
+    -- the number of the entry there
+    key_there : (e : Entry) → slice_get es place ≡ Some e → e.0 ≡ n
+    key_there e at =
+        let is = position-Some (nat_eq n) (keys_of es) place e.0 found in
+        sym (eqb-true n e.0 (ap (nat_eq n) (sym (get_or-map (λ (x : Entry). x.0) es place e e.0 (slice_get_within es place e at)
+        ∙ ap (λ (x : Entry). x.0) (get_or_from_slice_get es place e e at))) ∙ is.1))
+
+    number_there : (page : Page) → get_or (values_of es) place None ≡ Some page → page.number ≡ n
+    number_there page at = key_there (page.number, Some page) (entry_at (MAX_PAGES + length es) es place page all at)
+
+    pub place_found : (page : Page) → get_or (values_of es) place None ≡ Some page → IsPlace (values_of es) n place
+    place_found page at = record { here = (page, (at, number_there page at)); only = only_there }
+
+    -- nor is one whose place is a hole
+    pub not_there : get_or (values_of es) place None ≡ None → is_resident (pages_in (values_of es)) n ≡ false
+    not_there hole =
+        absent_from n (values_of es) (λ k page at same.
+        none-some page (sym hole ∙ ap (λ (i : ℕ). get_or (values_of es) i None) (sym (only_there k page at same)) ∙ at))
+
+    -- where the page is not there, a hole has its number
+    pub hole_found : is_resident (pages_in (values_of es)) n ≡ false → slice_get es place ≡ Some (n, None)
+    hole_found absent =
+        let lt = (position-Some (nat_eq n) (keys_of es) place 0 found).0 in
+        let e = get_or es place (n, None) in
+        let at = slice_get-get_or es place (n, None) (omega (arith, lt, length-keys_of es)) in
+        at ∙ ap (λ (k : ℕ). Some (k, e.1)) (key_there e at)
+        ∙ ap (λ (o : Option Page). Some (n, o)) (hole e.1 (value_at es place e at))
+      where
+        hole : (slot : Option Page) → get_or (values_of es) place None ≡ slot → slot ≡ None
+        hole None is = refl
+        hole (Some page) is =
+            absurd (true≢false (sym (resident_at (values_of es) place page is)
+            ∙ ap (is_resident (pages_in (values_of es))) (number_there page is) ∙ absent))
+
+pub resident_there : (slots : List (Option Page)) (n place : ℕ) → IsPlace slots n place
+    → is_resident (pages_in slots) n ≡ true
+resident_there slots n place is =
+    ap (is_resident (pages_in slots)) (sym is.here.1.1) ∙ resident_at slots place is.here.0 is.here.1.0
+
+-- ---- entries without the holes
+
+-- the entries that have pages
+abbrev pub kept : List Entry → List Entry
+kept es = filter (λ (e : Entry). is_some e.1) es
+
+pub kept_slots : (es : List Entry) → values_of (kept es) ≡ map Some (pages_in (values_of es))
+kept_slots [] = refl
+kept_slots (e ∷ es) = by e.1 refl (kept_slots es)
   where
-    gone : (xs : List (Option Page)) (k place : ℕ) (q : Page) → k ≡ place
-        → get_or (set xs place None) k None ≡ Some q → ⊥
-    gone [] k place q same at = absurd (cc)
-    gone (x ∷ xs) zero zero q same at = absurd (cc)
-    gone (x ∷ xs) zero (suc place) q same at = let no : ⊥ = omega (arith, same) in no
-    gone (x ∷ xs) (suc k) zero q same at = let no : ⊥ = omega (arith, same) in no
-    gone (x ∷ xs) (suc k) (suc place) q same at = gone xs k place q (omega (arith, same)) at
+    by : (slot : Option Page) → e.1 ≡ slot → values_of (kept es) ≡ map Some (pages_in (values_of es))
+        → values_of (kept (e ∷ es)) ≡ map Some (pages_in (e.1 ∷ values_of es))
+    by None is rest =
+        ap (λ (o : Option Page). values_of (cond (is_some o) (e ∷ kept es) (kept es))) is ∙ rest
+        ∙ ap (λ (o : Option Page). map Some (pages_in (o ∷ values_of es))) (sym is)
+    by (Some page) is rest =
+        ap (λ (o : Option Page). values_of (cond (is_some o) (e ∷ kept es) (kept es))) is
+        ∙ ap (λ (o : Option Page). o ∷ values_of (kept es)) is
+        ∙ ap (λ (ss : List (Option Page)). Some page ∷ ss) rest
+        ∙ ap (λ (o : Option Page). map Some (pages_in (o ∷ values_of es))) (sym is)
+
+later : (a b : ℕ) (es : List Entry) → a ≤ b → All (IsUnderNumber a) es → All (IsUnderNumber b) es
+later a b es le all =
+    All-weaker (IsUnderNumber a) (IsUnderNumber b)
+    (λ e under. record { below = omega (arith, under.below, le); own = under.own }) es all
+
+module _ (es : List Entry) (all : AreUnderNumbers es) where
+  kept_under : All (IsUnderNumber MAX_PAGES) (kept es)
+  kept_under = λ k d lt.
+      let under = All-filter (λ (e : Entry). is_some e.1) (IsUnderNumber (MAX_PAGES + length es)) es all k d lt in
+      let e = get_or (kept es) k d in
+      record { below = by e.0 e.1 under.own (filter_passes (λ (x : Entry). is_some x.1) es k d lt); own = under.own }
+    where
+      by : (n : ℕ) (slot : Option Page) → IfSome slot (IsUnder n) → is_some slot ≡ true → n < MAX_PAGES
+      by n None own is = absurd (cc)
+      by n (Some page) own is = omega (arith, own.0, own.1)
+
+  pub under_kept : AreUnderNumbers (kept es)
+  under_kept = later MAX_PAGES (MAX_PAGES + length (kept es)) (kept es) (omega arith) kept_under
+
+  -- so there are no more pages than numbers
+  pages_few : IsDistinct nat_eq (keys_of es) → length (pages_in (values_of es)) ≤ MAX_PAGES
+  pages_few distinct =
+      let ks : List ℕ = keys_of (kept es) in
+      let low : All (λ m. m < MAX_PAGES) ks = All-map (λ m. m < MAX_PAGES) (λ (e : Entry). e.0) (kept es)
+      (All-weaker (IsUnderNumber MAX_PAGES) (λ (e : Entry). e.0 < MAX_PAGES) (λ e under. under.below) (kept es) kept_under) in
+      let few : length ks ≤ MAX_PAGES =
+      length-le_from_distinct_below ks MAX_PAGES
+      (IsDistinct-keys_filter nat_eq (λ (e : Entry). is_some e.1) es distinct)
+      (λ q any. All-contains (λ m. m < MAX_PAGES) ks q low (Contains-list_any nat_eq eqb-true ks q any)) in
+      omega (
+        arith,
+        few,
+        length-keys_of (kept es),
+        length-values_of (kept es),
+        ap (length {A = Option Page}) (kept_slots es),
+        length-map {B = Option Page} (pages_in (values_of es)) Some,
+      )
+
+  -- and few slots
+  pub slots_few : (count : ℕ) → IsDistinct nat_eq (keys_of es) → AreCounted count (values_of es)
+      → length es ≤ 2 * MAX_PAGES + 1
+  slots_few count distinct counted = omega (arith, pages_few distinct, counted.holes, length-values_of es)
+
+  -- ---- a page more
+
+  -- the number that a hole gets is free
+  pub free_number : lookup (nat_eq (MAX_PAGES + length es)) es ≡ None
+  free_number = by (MAX_PAGES + length es) es all
+    where
+      by : (b : ℕ) (xs : List Entry) → All (IsUnderNumber b) xs → lookup (nat_eq b) xs ≡ None
+      by b [] under = refl
+      by b (x ∷ xs) under =
+          let low = (All-head (IsUnderNumber b) x xs under).below in
+          ap (λ (t : Bool). cond t (Some x.1) (lookup (nat_eq b) xs)) (ne_eqb b x.0 (λ same. let no : ⊥ = omega (arith, low, same) in no))
+          ∙ by b xs (All-tail (IsUnderNumber b) x xs under)
+
+  module _ (n : ℕ) (page : Page) (same : n ≡ page.number) (low : page.number < MAX_PAGES) where
+    under_last : (xs : List Entry) → length xs ≡ length es → All (IsUnderNumber (MAX_PAGES + length es + 1)) xs
+        → AreUnderNumbers (xs ++ (n, Some page) ∷ [])
+    under_last xs long under =
+        let b = MAX_PAGES + length es + 1 in
+        let more : MAX_PAGES + length (xs ++ (n, Some page) ∷ []) ≡ b = omega (arith, length_push xs (n, Some page), long) in
+        subst (λ (m : ℕ). All (IsUnderNumber m) (xs ++ (n, Some page) ∷ [])) (sym more)
+        (All-push (IsUnderNumber b) xs (n, Some page) under
+        (record { below = omega (arith, same, low); own = (sym same, low) }))
+
+    pub under_more : AreUnderNumbers (es ++ (n, Some page) ∷ [])
+    under_more = under_last es refl (later (MAX_PAGES + length es) (MAX_PAGES + length es + 1) es (omega arith) all)
+
+    -- also where a hole had its number
+    pub under_past_hole : (i : ℕ)
+        → AreUnderNumbers (set es i (MAX_PAGES + length es, None) ++ (n, Some page) ∷ [])
+    under_past_hole i =
+        let b = MAX_PAGES + length es + 1 in
+        under_last (set es i (MAX_PAGES + length es, None)) (length-set es i (MAX_PAGES + length es, None))
+        (All-set (IsUnderNumber b) es i (MAX_PAGES + length es, None)
+        (record { below = omega arith; own = tt }) (later (MAX_PAGES + length es) b es (omega arith) all))
+
+pub values_more : (es : List Entry) (n : ℕ) (page : Page)
+    → values_of (es ++ (n, Some page) ∷ []) ≡ values_of es ++ Some page ∷ []
+values_more es n page = map-append (λ (e : Entry). e.1) es ((n, Some page) ∷ [])
+
+pub values_past_hole : (es : List Entry) (i b n : ℕ) (page : Page) → slice_get es i ≡ Some (n, None)
+    → values_of (set es i (b, None) ++ (n, Some page) ∷ []) ≡ values_of es ++ Some page ∷ []
+values_past_hole es i b n page at =
+    values_more (set es i (b, None)) n page
+    ∙ ap (λ (ss : List (Option Page)). ss ++ Some page ∷ [])
+    (map-set (λ (e : Entry). e.1) es i (b, None)
+    ∙ ap (set (values_of es) i) (sym (value_at es i (n, None) at)) ∙ set-get_or (values_of es) i None)
+
+-- an entry changes places with one that was put behind all
+pub swapped_last : (es : List Entry) (i : ℕ) (e last : Entry) → slice_get es i ≡ Some e
+    → swap (es ++ last ∷ []) i (length es) ≡ set es i last ++ e ∷ []
+swapped_last es i e last at =
+    let lt = slice_get_within es i e at in
+    let long = length_push es last in
+    let xs = es ++ last ∷ [] in
+    sym (swap_is xs i (length es) last (omega (arith, lt, long)) (omega (arith, long)))
+    ∙ ap (λ (x : Entry). set (set xs i x) (length es) (get_or xs i last)) (get_or_push es last last (length es) refl)
+    ∙ ap (λ (x : Entry). set (set xs i last) (length es) x)
+    (get_or_append_left es (last ∷ []) last i lt ∙ get_or_from_slice_get es i e last at)
+    ∙ ap (λ (ys : List Entry). set ys (length es) e) (set-append_left es (last ∷ []) i last lt)
+    ∙ ap (λ (k : ℕ). set (set es i last ++ last ∷ []) k e) (sym (length-set es i last))
+    ∙ at_end (set es i last)
+  where
+    at_end : (xs : List Entry) → set (xs ++ last ∷ []) (length xs) e ≡ xs ++ e ∷ []
+    at_end [] = refl
+    at_end (x ∷ xs) = ap (λ (ys : List Entry). x ∷ ys) (at_end xs)
+
+pub set_last : (es : List Entry) (e : Entry) (slot : Option Page)
+    → set_value_at (es ++ e ∷ []) (length es) slot ≡ es ++ (e.0, slot) ∷ []
+set_last [] e slot = refl
+set_last (x ∷ es) e slot = ap (λ (ys : List Entry). x ∷ ys) (set_last es e slot)
 
 -- ---- a change of one page
 
@@ -344,47 +356,34 @@ slot_stays : (next : Record) (n : ℕ) (slot : Option Page) → IfSome (change_o
 slot_stays next n None names other = refl
 slot_stays next n (Some page) names other = ap Some (sym (other_stays next n page names (other page refl)))
 
--- the slot that the number says, among all
-pub redone_at : (next : Record) (n place : ℕ) (slots : List (Option Page)) (places : List ℕ) (now : Option Page)
-    → IfSome (change_of next) (λ c. c.page ≡ n) → AreNoted slots places → slice_get places n ≡ Some place
-    → now ≡ redone next (get_or slots place None) → set slots place now ≡ map (redone next) slots
-redone_at next n place slots places now names noted says is =
+-- the slot of the page, among all
+pub redone_at : (next : Record) (n place : ℕ) (slots : List (Option Page)) (now : Option Page)
+    → IfSome (change_of next) (λ c. c.page ≡ n)
+    → ((k : ℕ) (page : Page) → get_or slots k None ≡ Some page → page.number ≡ n → k ≡ place)
+    → place < length slots → now ≡ redone next (get_or slots place None) → set slots place now ≡ map (redone next) slots
+redone_at next n place slots now names only within is =
     same_lists (set slots place now) (map (redone next) slots)
     (length-set slots place now ∙ sym (length-map slots (redone next)))
     (λ k d lt.
     let there : k < length slots = omega (arith, lt, length-set slots place now) in
+    let after : redone next (get_or slots k None) ≡ get_or (map (redone next) slots) k d =
+    sym (get_or-map (redone next) slots k None d there) in
     elim (cases_eq k place) [
-      | inl same ↦ here slots k place d there same is
+      | inl same ↦
+          ap (λ (i : ℕ). get_or (set slots place now) i d) same ∙ get_or-set_same slots place now d within
+          ∙ is ∙ ap (λ (i : ℕ). redone next (get_or slots i None)) (sym same) ∙ after
       | inr other ↦
-          get_or-set_other slots place k now d other
-          ∙ at_default slots k d there
-          ∙ slot_stays next n (get_or slots k None) names (λ page at number.
-          other (same_Some k place (sym (noted k page at) ∙ ap (slice_get places) number ∙ says)))
-          ∙ ap (redone next) (sym (at_default slots k d there))
-          ∙ sym (get_or-map (redone next) slots k d d there)
+          get_or-set_other slots place k now d other ∙ get_or_default slots k d None there
+          ∙ slot_stays next n (get_or slots k None) names (λ page at number. other (only k page at number))
+          ∙ after
     ])
-  where
-    at_default : (xs : List (Option Page)) (k : ℕ) (d : Option Page) → k < length xs → get_or xs k d ≡ get_or xs k None
-    at_default [] k d lt = let no : ⊥ = omega (arith, lt) in absurd no
-    at_default (x ∷ xs) zero d lt = refl
-    at_default (x ∷ xs) (suc k) d lt = at_default xs k d (omega (arith, lt))
 
-    here : (xs : List (Option Page)) (k at : ℕ) (d : Option Page) → k < length xs → k ≡ at
-        → now ≡ redone next (get_or xs at None) → get_or (set xs at now) k d ≡ get_or (map (redone next) xs) k d
-    here [] k at d lt same is = let no : ⊥ = omega (arith, lt) in absurd no
-    here (x ∷ xs) zero zero d lt same is = is
-    here (x ∷ xs) zero (suc at) d lt same is = let no : ⊥ = omega (arith, same) in absurd no
-    here (x ∷ xs) (suc k) zero d lt same is = let no : ⊥ = omega (arith, same) in absurd no
-    here (x ∷ xs) (suc k) (suc at) d lt same is = here xs k at d (omega (arith, lt)) (omega (arith, same)) is
-
--- and where it says none, or one past all, all slots stay
-pub redone_none : (next : Record) (n : ℕ) (slots : List (Option Page)) (places : List ℕ)
-    → IfSome (change_of next) (λ c. c.page ≡ n) → AreNoted slots places
-    → ((k : ℕ) → slice_get places n ≡ Some k → length slots ≤ k) → slots ≡ map (redone next) slots
-redone_none next n slots places names noted none =
+-- and where it has none, all slots stay
+pub redone_none : (next : Record) (n : ℕ) (slots : List (Option Page)) → IfSome (change_of next) (λ c. c.page ≡ n)
+    → is_resident (pages_in slots) n ≡ false → slots ≡ map (redone next) slots
+redone_none next n slots names absent =
     stay slots (λ k page at same.
-    let past = none k (ap (slice_get places) (sym same) ∙ noted k page at) in
-    let no : ⊥ = omega (arith, past, within_at slots k page at) in no)
+    true≢false (sym (resident_at slots k page at) ∙ ap (is_resident (pages_in slots)) same ∙ absent))
   where
     stay : (xs : List (Option Page)) → ((k : ℕ) (page : Page) → get_or xs k None ≡ Some page → page.number ≢ n)
         → xs ≡ map (redone next) xs
@@ -394,30 +393,18 @@ redone_none next n slots places names noted none =
         ∙ ap (λ (ys : List (Option Page)). redone next x ∷ ys) (stay xs (λ k page at. other (suc k) page at))
 
 -- a change leaves each page under its number
-pub noted_redone : (next : Record) (slots : List (Option Page)) (places : List ℕ) → AreNoted slots places
-    → AreNoted (map (redone next) slots) places
-noted_redone next slots places noted = λ k q at.
-    let was = before slots k q at in
-    ap (slice_get places) (sym was.2) ∙ noted k was.0 was.1
+pub under_redone : (next : Record) (es : List Entry) (i : ℕ) (slot : Option Page) → i < length es
+    → slot ≡ redone next (get_or (values_of es) i None) → AreUnderNumbers es → AreUnderNumbers (set_value_at es i slot)
+under_redone next es i slot lt is all =
+    under_set es i slot lt all (λ b e at under. record {
+      below = under.below;
+      own = subst (λ (o : Option Page). IfSome o (IsUnder e.0)) (sym (is ∙ ap (redone next) (value_at es i e at)))
+          (by e.0 e.1 under.own);
+    })
   where
-    by : (x : Option Page) (q : Page) → redone next x ≡ Some q → (p : Page) × (x ≡ Some p) × (p.number ≡ q.number)
-    by None q at = absurd (cc)
-    by (Some p) q at =
-        (p, refl, sym (number-with_record p next) ∙ ap (λ (x : Page). x.number) (same_Some (with_record p next) q at))
-
-    before : (xs : List (Option Page)) (k : ℕ) (q : Page) → get_or (map (redone next) xs) k None ≡ Some q
-        → (p : Page) × (get_or xs k None ≡ Some p) × (p.number ≡ q.number)
-    before [] k q at = absurd (cc)
-    before (x ∷ xs) zero q at = by x q at
-    before (x ∷ xs) (suc k) q at = before xs k q at
-
-pub placed_redone : (next : Record) (slots : List (Option Page)) (places : List ℕ) (room : ℕ)
-    → ArePlaced slots places room → ArePlaced (map (redone next) slots) places room
-placed_redone next slots places room placed = record {
-  noted = noted_redone next slots places placed.noted;
-  few = placed.few;
-  reserved = placed.reserved;
-}
+    by : (n : ℕ) (old : Option Page) → IfSome old (IsUnder n) → IfSome (redone next old) (IsUnder n)
+    by n None own = tt
+    by n (Some page) own = subst (λ m. (m ≡ n) × (m < MAX_PAGES)) (sym (number-with_record page next)) own
 
 -- the pages of slots on which a record was redone
 pub pages_redone : (next : Record) (slots : List (Option Page))

@@ -1,6 +1,7 @@
 pub mod BitRow
 pub mod Frames
 pub mod Marks
+pub mod PageHasher
 pub mod PageSet
 pub mod PageStates
 pub mod Pool

@@ -1,7 +1,7 @@
 -- Slots in which pages stand, in the order in which they came, with holes among them.
-use Rattle.std.specs.Prelude.{ℕ, ◌≡◌, ◌+◌, ◌*◌, ◌≤◌, List, length, Option, None, Some, slice_get}
+use Rattle.std.specs.Prelude.{ℕ, ◌≡◌, ◌+◌, ◌*◌, ◌<◌, ◌≤◌, List, length, Option, None, Some, IfSome}
 use Rattle.std.specs.Prelude.{slice_index_or}
-use Rattle.std.specs.List.{filter_map}
+use Rattle.std.specs.List.{All, filter_map}
 use Rattle.page_core.specs.declared.page.Page.{Page}
 use Rattle.page_core.specs.declared.page.TheConstants.{MAX_PAGES}
 
@@ -23,16 +23,18 @@ pub record IsPlace (slots : List (Option Page)) (number place : ℕ) : Type 0 wh
 
 -- ---- how they are kept
 
--- under its number each page has the place where it stands
-abbrev pub AreNoted : List (Option Page) → List ℕ → Type 0
-AreNoted slots places = (k : ℕ) (page : Page) → slice_index_or slots k None ≡ Some page
-    → slice_get places page.number ≡ Some k
+-- the page has this number, and a volume may have such a page
+abbrev pub IsUnder : ℕ → Page → Type 0
+IsUnder number page = (page.number ≡ number) × (page.number < MAX_PAGES)
 
--- and there is room for the place of each page that a volume may have
-pub record ArePlaced (slots : List (Option Page)) (places : List ℕ) (room : ℕ) : Type 0 where
-  pub noted : AreNoted slots places
-  pub few : length places ≤ MAX_PAGES
-  pub reserved : MAX_PAGES ≤ room
+-- an entry has a number below a bound, and a page stands under its own
+pub record IsUnderNumber (bound : ℕ) (entry : ℕ × Option Page) : Type 0 where
+  pub below : entry.0 < bound
+  pub own : IfSome entry.1 (IsUnder entry.0)
+
+-- so the number behind the bound is free for one hole more
+abbrev pub AreUnderNumbers : List (ℕ × Option Page) → Type 0
+AreUnderNumbers entries = All (IsUnderNumber (MAX_PAGES + length entries)) entries
 
 -- so many slots have a page, and the holes are one more than these at most
 pub record AreCounted (count : ℕ) (slots : List (Option Page)) : Type 0 where

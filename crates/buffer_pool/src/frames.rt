@@ -50,7 +50,7 @@ impl Frames {
         ensures room { IfOk result (λ it. it.room ≡ 0) }
     {
         Ok(Frames {
-            slots: Slots::new(alloc)?,
+            slots: Slots::new(alloc, count)?,
             free: None,
             marks: Marks::new(alloc, count)?,
         })

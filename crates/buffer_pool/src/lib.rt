@@ -8,6 +8,7 @@ mod frames;
 mod growth;
 mod laws;
 mod marks;
+mod page_hasher;
 mod page_image;
 mod page_set;
 mod page_states;

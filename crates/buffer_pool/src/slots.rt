@@ -1,74 +1,79 @@
 //! The slots in which the pages of a pool stand.
 
-ghost use Rattle.std.specs.Prelude.{◌≡◌, ◌-◌, ◌*◌, ◌<◌, ◌≤◌, ◌++◌, [], ◌∷◌, None, Some, false};
-ghost use Rattle.std.specs.Prelude.{length, map, is_some, slice_index_or, slice_set};
+ghost use Rattle.std.specs.Prelude.{◌≡◌, ◌+◌, ◌-◌, ◌*◌, ◌<◌, ◌≤◌, ◌++◌, [], ◌∷◌, None, Some, false};
+ghost use Rattle.std.specs.Prelude.{length, map, is_some, slice_get, slice_index_or, slice_set};
 ghost use Rattle.std.specs.Prelude.{IfOk, IfSome, IsSome, OnOk, nat_eq, nat_le};
-ghost use Rattle.std.specs.List.{All, Contains, IsDistinct};
+ghost use Rattle.std.specs.List.{Contains};
 ghost use Rattle.std.specs.Option.{option_copied, option_map};
+ghost use Rattle.indexmap.specs.IndexMap.{get, spare};
 ghost use Rattle.log_records.specs.Image.{with_record};
 ghost use Rattle.log_records.specs.Record.{change_of};
 ghost use Rattle.buffer_pool.specs.Frames.{is_resident};
-ghost use Rattle.buffer_pool.specs.Slots.{AreNoted, IsPlace, pages_in};
+ghost use Rattle.buffer_pool.specs.Slots.{IsPlace, pages_in};
 
-use crate::frame::Frame;
-use crate::growth::grow_column_with;
+use crate::frame::{Frame, MAX_FRAMES};
+use crate::page_hasher::PageHasher;
+use indexmap::IndexMap;
 use log_records::Record;
 use page_core::{MAX_PAGES, Page, PageNo};
 use std::alloc::{AllocError, Global};
+use std::hash::BuildHasherDefault;
 use std::marker::Model;
+
+/// A frame under the number of its page, or a hole.
+type SlotMap = IndexMap<u32, Option<Frame>, BuildHasherDefault<PageHasher>>;
 
 /// Frames in slots, in the order in which they came, with holes among them. A page is found by its
 /// number.
 #[derive(Drop)]
 pub(crate) struct Slots {
-    /// A frame in each slot, or a hole.
-    frames: Vec<Option<Frame>>,
-    /// Of each page number the slot that the page was put into last. A hole or another page may be
-    /// there since, so the page in the slot is looked at.
-    places: Vec<u32>,
+    /// A page that is taken out leaves a hole under its number. Other holes have numbers past
+    /// those of all pages.
+    slots: SlotMap,
     /// How many slots have a frame.
     count: usize,
 }
 
 impl Model for Slots {
-    ghost use Rattle.std.specs.Prelude.{◌-◌, length, vec_capacity};
-    ghost use Rattle.buffer_pool.specs.Slots.{AreCounted, ArePlaced, SlotsView};
+    ghost use Rattle.indexmap.specs.IndexMap.{spare as room_of, values};
+    ghost use Rattle.buffer_pool.specs.Slots.{AreCounted, AreUnderNumbers, SlotsView};
 
     ghost Value = { SlotsView };
 
-    ghost view = { λ it. record {
-      list = it.frames.items;
-      spare = vec_capacity it.frames - length it.frames.items;
-    } };
+    ghost view = { λ it. record { list = values it.slots; spare = room_of it.slots } };
 
-    ghost invariant = { λ it. ArePlaced it.frames.items it.places.items (vec_capacity it.places)
-        × AreCounted it.count it.frames.items };
+    ghost invariant = { λ it. AreUnderNumbers it.slots.entries
+        × AreCounted it.count (values it.slots) };
 }
 
 impl Slots {
-    /// No slot, with room for the place of each page that a volume may have. `AllocError` comes
-    /// where memory is refused.
-    pub(crate) fn new(alloc: Global) -> Result<Slots, AllocError>
+    /// No slot, for so many frames. The map has room for 32 entries for each frame, up to two for
+    /// each page that a volume may have, so that few slots share a group of its table.
+    /// `AllocError` comes where memory is refused.
+    pub(crate) fn new(alloc: Global, frames: u32) -> Result<Slots, AllocError>
         ensures list { IfOk result (λ it. it.list ≡ []) }
-        ensures spare { IfOk result (λ it. it.spare ≡ 0) }
     {
+        let room = (32 * frames.min(MAX_FRAMES)).min(2 * MAX_PAGES);
         Ok(Slots {
-            frames: Vec::new(alloc),
-            places: Vec::with_capacity(alloc, MAX_PAGES as usize)?,
+            slots: IndexMap::with_capacity_and_hasher(
+                alloc,
+                room as usize,
+                BuildHasherDefault::new(),
+            )?,
             count: 0,
         })
     }
 
     /// What the slots take memory of.
     pub(crate) fn allocator(&self) -> Global {
-        *self.frames.allocator()
+        *self.slots.allocator()
     }
 
     /// How many slots there are.
     pub(crate) fn len(&self) -> usize
         ensures { result ≡ length self.now.list }
     {
-        self.frames.len()
+        self.slots.len()
     }
 
     /// How many pages stand in them.
@@ -82,14 +87,14 @@ impl Slots {
     pub(crate) fn is_sparse(&self) -> bool
         ensures { result ≡ nat_le (2 * length (pages_in self.now.list)) (length self.now.list) }
     {
-        self.frames.len() - self.count >= self.count
+        self.slots.len() - self.count >= self.count
     }
 
     /// The page in a slot.
     pub(crate) fn at(&self, place: usize) -> Option<&Page>
         ensures { option_copied result ≡ slice_index_or self.now.list place None }
     {
-        Some(self.frames.get(place)?.as_ref()?.page())
+        Some(self.slots.get_index(place)?.1.as_ref()?.page())
     }
 
     /// The place of the page of this number.
@@ -97,13 +102,9 @@ impl Slots {
         ensures found { is_some result ≡ is_resident (pages_in self.now.list) number }
         ensures place { IfSome result (IsPlace self.now.list number) }
     {
-        let place = *self.places.get(number.0 as usize)? as usize;
-        let page = self.at(place)?;
-        if page.number == number {
-            Some(place)
-        } else {
-            None
-        }
+        let place = self.slots.get_index_of(&number.0)?;
+        self.at(place)?;
+        Some(place)
     }
 
     /// The page of this number.
@@ -122,11 +123,8 @@ impl Slots {
             ≡ map (option_map (λ page. with_record page next.now)) self.old.list }
         ensures spare { self.new.spare ≡ self.old.spare }
     {
-        let Some(place) = self.places.get(number.0 as usize) else {
-            return;
-        };
-        if let Some(slot) = self.frames.get_mut(*place as usize) {
-            redo_slot(slot, next);
+        if let Some(place) = self.slots.get_index_of(&number.0) {
+            redo_slot(&mut self.slots[place], next);
         }
     }
 
@@ -135,7 +133,7 @@ impl Slots {
         ensures room { OnOk result (0 < self.new.spare) }
         ensures same { self.new.list ≡ self.old.list }
     {
-        self.frames.reserve(1)
+        self.slots.reserve(1)
     }
 
     /// Puts a frame into a slot behind the others. It takes no memory.
@@ -146,10 +144,12 @@ impl Slots {
         ensures { self.new.list ≡ self.old.list ++ Some frame ∷ [] }
     {
         let number = frame.page().number.0;
-        grow_column_with(&mut self.places, number + 1, 0);
-        self.places[number as usize] = self.frames.len() as u32;
-        self.frames.push_reserved(Some(frame));
+        let found = self.slots.get_index_of(&number);
         self.count += 1;
+        match found {
+            None => put_last(&mut self.slots, number, Some(frame)),
+            Some(hole) => put_past_hole(&mut self.slots, hole, number, frame),
+        }
     }
 
     /// Takes the frame out of a slot, and leaves a hole there.
@@ -160,7 +160,7 @@ impl Slots {
         ensures spare { self.new.spare ≡ self.old.spare }
     {
         self.count -= 1;
-        self.frames[place].take()
+        self.slots[place].take()
     }
 
     /// Squeezes the holes out, so that the pages move to the front.
@@ -168,27 +168,38 @@ impl Slots {
         ensures list { self.new.list ≡ map Some (pages_in self.old.list) }
         ensures spare { self.old.spare ≤ self.new.spare }
     {
-        self.frames.retain(
-            |slot: &Option<Frame>| -> bool
-                ensures { result ≡ is_some slot.now }
+        self.slots.retain(
+            |_number: &u32, slot: &mut Option<Frame>| -> bool
+                ensures { (result ≡ is_some slot.old) × (slot.new ≡ slot.old) }
             { slot.is_some() },
         );
-        note_places(&self.frames, &mut self.places);
     }
 }
 
-/// Notes the place of each page under its number.
-fn note_places(frames: &[Option<Frame>], places: &mut [u32])
-    requires few { length frames.now ≤ MAX_PAGES }
-    requires within { All (λ page. page.number < length places.old) (pages_in frames.now) }
-    requires apart { IsDistinct nat_eq (map (λ page. page.number) (pages_in frames.now)) }
-    ensures { AreNoted frames.now places.new }
+/// Puts a slot behind the others. It takes no memory.
+fn put_last(slots: &mut SlotMap, number: u32, slot: Option<Frame>)
+    requires room { 0 < spare slots.old }
+    requires absent { get nat_eq slots.old number ≡ None }
+    ensures { slots.new.entries ≡ slots.old.entries ++ (number, slot) ∷ [] }
 {
-    for (place, slot) in frames.iter().enumerate() {
-        if let Some(frame) = slot {
-            places[frame.page().number.0 as usize] = place as u32;
-        }
-    }
+    slots.insert(number, slot).unwrap();
+}
+
+/// Puts a frame behind the others, under the number of a hole that stands among them. The hole gets
+/// a number past all that there are.
+fn put_past_hole(slots: &mut SlotMap, hole: usize, number: u32, frame: Frame)
+    requires room { 0 < spare slots.old }
+    requires few { length slots.old.entries ≤ 2 * MAX_PAGES + 1 }
+    requires free { get nat_eq slots.old (MAX_PAGES + length slots.old.entries) ≡ None }
+    requires hole { slice_get slots.old.entries hole ≡ Some (number, None) }
+    ensures { slots.new.entries
+        ≡ slice_set slots.old.entries hole (MAX_PAGES + length slots.old.entries, None)
+        ++ (number, Some frame) ∷ [] }
+{
+    let end = slots.len();
+    put_last(slots, MAX_PAGES + end as u32, None);
+    slots.swap_indices(hole, end);
+    slots[end] = Some(frame);
 }
 
 /// Redoes a record on the page of a slot, if it is a change of this page.

@@ -1,52 +1,43 @@
-use Rattle.std.proofs.Common.{◌≡◌, ◌∙◌, ap, eq-eqb, eqb-true, subst, sym, true≢false}
-use Rattle.std.specs.Prelude.{is_some}
-use Rattle.std.proofs.lemmas.Option.{none-some, same_Some}
-use Rattle.page_core.specs.declared.page.Page.{Page}
-use Rattle.buffer_pool.specs.Slots.{AreNoted, SlotsView}
-use Rattle.buffer_pool.proofs.Placed.{no_place, not_there, place_found, resident_there, said, unsaid}
+use Rattle.std.proofs.Common.{◌≡◌, ◌∙◌, ℕ, ap, nat_eq, subst, sym}
+use Rattle.std.specs.Map.{keys_of}
+use Rattle.std.specs.Prelude.{None, Option, Some, is_some, position, slice_index_or}
+use Rattle.buffer_pool.specs.Frames.{is_resident}
+use Rattle.buffer_pool.specs.Slots.{IsPlace, SlotsView, pages_in}
+use Rattle.buffer_pool.proofs.Placed.{no_place, not_there, place_found, resident_there, sought}
 use Rattle.buffer_pool.proofs.slots.Slots.place_of.Goals as goal
+use Rattle.buffer_pool.proofs.slots.Slots.place_of.Goals.{After-get_index_of}
+
+-- what the search says
+said : (c : After-get_index_of) (r : Option ℕ) → c.get_index_of.result ≡ r
+    → position (nat_eq c.args.number) (keys_of c.self.inside.slots.entries) ≡ r
+said c r is =
+    sought (keys_of c.self.inside.slots.entries) c.number.inside.0 c.args.number c.get_index_of.result r c.number.view_is
+    c.get_index_of.ensures.index is
 
 pub returns-in_err-place-clause-found : goal.returns-in_err-place-clause-found
 returns-in_err-place-clause-found c =
-    let places = c.self.inside.places.items in
     ap is_some c.from_residual.ensures
-    ∙ sym (no_place c.args.self.now.list places c.args.number
-    (subst (λ (v : SlotsView). AreNoted v.list places) c.self.view_is c.self.invariant.0.noted)
-    (unsaid places c.deref.result.now c.args.number c.number.inside.0 c.deref.ensures.value c.number.view_is
-    c.in_err-place.ensures.lookup.3))
+    ∙ sym (no_place c.self.inside.slots.entries c.args.number c.self.invariant.0 c.in_err-place.ensures.unique
+    (said (goal.at.returns-in_err-place-clause-found c).After-get_index_of None c.in_err-place.was))
+    ∙ ap (λ (v : SlotsView). is_resident (pages_in v.list) c.args.number) c.self.view_is
 
-pub returns-in_err-page-clause-found : goal.returns-in_err-page-clause-found
-returns-in_err-page-clause-found c =
-    let places = c.self.inside.places.items in
-    ap is_some c.from_residual-in_err-page.ensures
-    ∙ sym (not_there c.args.self.now.list places c.args.number c.in_ok-place.field-0.now
-    (subst (λ (v : SlotsView). AreNoted v.list places) c.self.view_is c.self.invariant.0.noted)
-    (said places c.deref.result.now c.args.number c.number.inside.0 c.in_ok-place.field-0.now c.deref.ensures.value
-    c.number.view_is c.in_ok-place.ensures.lookup.3)
-    (λ page at same. none-some page (c.in_err-page.ensures ∙ at)))
+pub returns-in_err-at-clause-found : goal.returns-in_err-at-clause-found
+returns-in_err-at-clause-found c =
+    ap is_some c.from_residual-in_err-at.ensures
+    ∙ sym (not_there c.self.inside.slots.entries c.args.number c.self.invariant.0 c.in_ok-place.ensures.unique
+    c.in_ok-place.place
+    (said (goal.at.returns-in_err-at-clause-found c).After-get_index_of (Some c.in_ok-place.place) c.in_ok-place.was)
+    (ap (λ (v : SlotsView). slice_index_or v.list c.in_ok-place.place None) c.self.view_is ∙ sym c.in_err-at.ensures))
+    ∙ ap (λ (v : SlotsView). is_resident (pages_in v.list) c.args.number) c.self.view_is
 
-pub returns-then-eq-clause-place : goal.returns-then-eq-clause-place
-returns-then-eq-clause-place c =
-    let places = c.self.inside.places.items in
-    place_found c.args.self.now.list places c.args.number c.in_ok-place.field-0.now c.in_ok-page.page.now
-    (subst (λ (v : SlotsView). AreNoted v.list places) c.self.view_is c.self.invariant.0.noted)
-    (said places c.deref.result.now c.args.number c.number.inside.0 c.in_ok-place.field-0.now c.deref.ensures.value
-    c.number.view_is c.in_ok-place.ensures.lookup.3)
-    (sym c.in_ok-page.ensures)
-    (eqb-true c.in_ok-page.page.now.number c.args.number (sym c.eq.ensures ∙ c.if-eq.true))
+pub returns-clause-place : goal.returns-clause-place
+returns-clause-place c =
+    subst (λ (v : SlotsView). IsPlace v.list c.args.number c.in_ok-place.place) c.self.view_is
+    (place_found c.self.inside.slots.entries c.args.number c.self.invariant.0 c.in_ok-place.ensures.unique
+    c.in_ok-place.place (said (goal.at.returns-clause-place c).After-get_index_of (Some c.in_ok-place.place) c.in_ok-place.was)
+    c.in_ok-at.field-0.now
+    (ap (λ (v : SlotsView). slice_index_or v.list c.in_ok-place.place None) c.self.view_is ∙ sym c.in_ok-at.ensures))
 
-pub returns-then-eq-clause-found : goal.returns-then-eq-clause-found
-returns-then-eq-clause-found c =
-    sym (resident_there c.args.self.now.list c.args.number c.in_ok-place.field-0.now (returns-then-eq-clause-place c))
-
-pub returns-else-eq-clause-found : goal.returns-else-eq-clause-found
-returns-else-eq-clause-found c =
-    let places = c.self.inside.places.items in
-    sym (not_there c.args.self.now.list places c.args.number c.in_ok-place.field-0.now
-    (subst (λ (v : SlotsView). AreNoted v.list places) c.self.view_is c.self.invariant.0.noted)
-    (said places c.deref.result.now c.args.number c.number.inside.0 c.in_ok-place.field-0.now c.deref.ensures.value
-    c.number.view_is c.in_ok-place.ensures.lookup.3)
-    (λ page at same.
-    let is : c.in_ok-page.page.now ≡ page = same_Some c.in_ok-page.page.now page (c.in_ok-page.ensures ∙ at) in
-    true≢false (sym (eq-eqb c.in_ok-page.page.now.number c.args.number
-    (ap (λ (x : Page). x.number) is ∙ same)) ∙ sym c.eq.ensures ∙ c.if-eq.false)))
+pub returns-clause-found : goal.returns-clause-found
+returns-clause-found c =
+    sym (resident_there c.args.self.now.list c.args.number c.in_ok-place.place (returns-clause-place c))
