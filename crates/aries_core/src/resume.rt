@@ -31,6 +31,14 @@ pub struct Legacy {
     pub vault: Vault,
 }
 
+/// Why no engine goes on, with the store and the device that were given, as they were.
+#[derive(Drop)]
+pub struct NotResumed<S: PageStore, D: LogDevice> {
+    pub fault: TablesFault,
+    pub store: S,
+    pub device: D,
+}
+
 impl<S: PageStore + Drop, D: LogDevice + Drop> Engine<S, D> {
     /// An engine that goes on where an older one was lost, over a store that has these pages, in
     /// order of their numbers, as the log makes them, and a device that has the log. No page is in
@@ -39,8 +47,8 @@ impl<S: PageStore + Drop, D: LogDevice + Drop> Engine<S, D> {
     /// is open. Of the store only its count is asked, and the device is not called.
     ///
     /// A fault comes where memory is refused, or the log lacks room: behind one of its records there
-    /// is no room to take back what is open there. No engine makes such a log. Store, device and
-    /// what was left are dropped then.
+    /// is no room to take back what is open there. No engine makes such a log. Store and device are
+    /// handed back then, and what was left is dropped.
     pub fn resume(
         alloc: Global,
         legacy: Legacy,
@@ -48,7 +56,7 @@ impl<S: PageStore + Drop, D: LogDevice + Drop> Engine<S, D> {
         frames: u32,
         store: S,
         device: D,
-    ) -> Result<Engine<S, D>, TablesFault>
+    ) -> Result<Engine<S, D>, NotResumed<S, D>>
         requires frames { IsFrameCount frames }
         requires may { MayResume legacy.log legacy.vault.copies }
         requires pages { pages.now ≡ redo_all legacy.log.records (page_count legacy.log) }
@@ -62,12 +70,29 @@ impl<S: PageStore + Drop, D: LogDevice + Drop> Engine<S, D> {
             IsLastPoint legacy.log legacy.log.records it.state.master) }
         ensures store { IfOk result (λ it. it.store ≡ store) }
         ensures device { IfOk result (λ it. it.device ≡ device) }
-        ensures fault { IfErr result (IsLeftBy legacy.log) }
+        ensures fault { IfErr result (λ e. IsLeftBy legacy.log e.fault) }
+        ensures untouched { IfErr result (λ e. (e.store ≡ store) × (e.device ≡ device)) }
     {
         let Legacy { log, vault } = legacy;
-        let (txns, returns) = tables_of(alloc, log.records())?;
-        let Ok(pool) = Pool::resume(alloc, store, pages, frames) else {
-            return Err(TablesFault::OutOfMemory);
+        let (txns, returns) = match tables_of(alloc, log.records()) {
+            Ok(tables) => tables,
+            Err(fault) => {
+                return Err(NotResumed {
+                    fault,
+                    store,
+                    device,
+                });
+            }
+        };
+        let pool = match Pool::resume(alloc, store, pages, frames) {
+            Ok(pool) => pool,
+            Err((_, store)) => {
+                return Err(NotResumed {
+                    fault: TablesFault::OutOfMemory,
+                    store,
+                    device,
+                });
+            }
         };
         let LogCheckpoints { last, open } = checkpoints_of(&log);
         Ok(Engine {

@@ -19,19 +19,33 @@ impl<S: PageStore + Drop, D: LogDevice + Drop> Engine<S, D> {
         ensures master { result.master ≡ option_map master_record self.state.master }
         ensures copies { result.copies ≡ self.state.copies }
     {
+        let (retired, _, _) = self.into_parts();
+        retired
+    }
+
+    /// As `retire`, but the store and the device are handed back, as they are: neither is called.
+    pub fn into_parts(self) -> (Retired, S, D)
+        ensures log { result.0.log ≡ log_of self.state }
+        ensures forced_end { result.0.forced_end ≡ self.state.forced_end }
+        ensures master { result.0.master ≡ option_map master_record self.state.master }
+        ensures copies { result.0.copies ≡ self.state.copies }
+        ensures store { result.1 ≡ self.store }
+        ensures device { result.2 ≡ self.device }
+    {
         let Engine {
             log,
             txns: _,
             returns: _,
-            pool: _,
+            pool,
             master,
             session: _,
             vault,
             alloc: _,
         } = self;
         let forced_end = log.forced_end();
-        let (log, _) = log.into_parts();
-        Retired::new(log, forced_end, master_of(master), vault)
+        let (log, device) = log.into_parts();
+        let retired = Retired::new(log, forced_end, master_of(master), vault);
+        (retired, pool.into_store(), device)
     }
 }
 

@@ -3,7 +3,7 @@
 ghost use Rattle.std.specs.Prelude.{ℕ, ◌≡◌, ◌≢◌, ◌-◌, ◌*◌, ◌<◌, ◌≤◌, ◌++◌, Bool, Option, [], ◌∷◌};
 ghost use Rattle.std.specs.Prelude.{true, false, length, map, position, slice_index_or};
 ghost use Rattle.std.specs.Prelude.{is_some};
-ghost use Rattle.std.specs.Prelude.{IfOk, IfSome, OnOk};
+ghost use Rattle.std.specs.Prelude.{IfOk, IfSome, OnErr, OnOk};
 ghost use Rattle.std.specs.List.{Contains, list_any};
 ghost use Rattle.page_core.specs.Volume.{formatted_pages};
 ghost use Rattle.page_core.specs.declared.page.Page.{Page};
@@ -174,6 +174,7 @@ impl Frames {
     /// Makes room for one page more. `AllocError` comes where it is refused. The pages stay.
     pub(crate) fn make_room(&mut self) -> Result<(), AllocError>
         ensures room { OnOk result (0 < self.new.room) }
+        ensures needed { OnErr result (self.old.room ≡ 0) }
         ensures same { self.new.pages ≡ self.old.pages }
         ensures sought { (clean : ℕ → Bool) → IsSought clean self.old → IsSought clean self.new }
     {

@@ -60,19 +60,24 @@ impl<S: PageStore> Model for Pool<S> {
 
 impl<S: PageStore + Drop> Pool<S> {
     /// A pool of so many frames over a store whose pages are formatted. No page is resident. It
-    /// calls nothing of the store but its count. `AllocError` comes where memory is refused. The
-    /// store is dropped then.
-    pub fn new(alloc: Global, store: S, frames: u32) -> Result<Pool<S>, AllocError>
+    /// calls nothing of the store but its count. `AllocError` comes where memory is refused, and the
+    /// store is handed back.
+    pub fn new(alloc: Global, store: S, frames: u32) -> Result<Pool<S>, (AllocError, S)>
         requires { (n : ℕ) × (IsPageCount n × (S.stored store ≡ formatted_pages n)) }
 
         ensures new { IfOk result (λ pool. (n : ℕ) → S.stored store ≡ formatted_pages n
             → pool ≡ new_pool store n frames) }
         ensures empty { IfOk result (λ pool. (n : ℕ) → S.stored store ≡ formatted_pages n
             → IsPoolOf S.stored (record { pages = n; records = [] }) pool) }
+        ensures untouched { IfErr result (λ e. e.1 ≡ store) }
     {
         let count = store.pages();
-        let states = PageStates::new(alloc, count)?;
-        let held = Frames::new(alloc, frames)?;
+        let Ok(states) = PageStates::new(alloc, count) else {
+            return Err((AllocError, store));
+        };
+        let Ok(held) = Frames::new(alloc, frames) else {
+            return Err((AllocError, store));
+        };
         Ok(Pool {
             store,
             limit: frames,
@@ -83,22 +88,27 @@ impl<S: PageStore + Drop> Pool<S> {
 
     /// A pool of so many frames over a store of pages that are as a log makes them, for a volume
     /// that goes on where it ended. No page is resident, and none is dirty. It calls nothing of the
-    /// store but its count. `AllocError` comes where memory is refused. The store is dropped then.
+    /// store but its count. `AllocError` comes where memory is refused, and the store is handed back.
     pub fn resume(
         alloc: Global,
         store: S,
         pages: &[Page],
         frames: u32,
-    ) -> Result<Pool<S>, AllocError>
+    ) -> Result<Pool<S>, (AllocError, S)>
         requires { S.stored store ≡ pages.now }
 
         ensures clean { IfOk result (λ pool. pool ≡ clean_pool store pages.now frames) }
         ensures of_log { IfOk result (λ pool. (log : Log) → IsLog log
             → pages.now ≡ redo_all log.records (page_count log) → IsPoolOf S.stored log pool) }
+        ensures untouched { IfErr result (λ e. e.1 ≡ store) }
     {
         let _count = store.pages();
-        let states = PageStates::stored(alloc, pages)?;
-        let held = Frames::new(alloc, frames)?;
+        let Ok(states) = PageStates::stored(alloc, pages) else {
+            return Err((AllocError, store));
+        };
+        let Ok(held) = Frames::new(alloc, frames) else {
+            return Err((AllocError, store));
+        };
         Ok(Pool {
             store,
             limit: frames,
@@ -109,17 +119,22 @@ impl<S: PageStore + Drop> Pool<S> {
 
     /// A pool over a formatted store, with a frame for each page. All pages are resident, as they
     /// are formatted. Memory and calls of the store are as for `new`.
-    pub fn whole(alloc: Global, store: S) -> Result<Pool<S>, AllocError>
+    pub fn whole(alloc: Global, store: S) -> Result<Pool<S>, (AllocError, S)>
         requires { (n : ℕ) × (IsPageCount n × (S.stored store ≡ formatted_pages n)) }
 
         ensures new { IfOk result (λ pool. (n : ℕ) → S.stored store ≡ formatted_pages n
             → pool ≡ record (whole_pool store n) { room = pool.room }) }
         ensures empty { IfOk result (λ pool. (n : ℕ) → S.stored store ≡ formatted_pages n
             → IsPoolOf S.stored (record { pages = n; records = [] }) pool) }
+        ensures untouched { IfErr result (λ e. e.1 ≡ store) }
     {
         let count = store.pages();
-        let frames = Frames::formatted(alloc, count)?;
-        let states = PageStates::new(alloc, count)?;
+        let Ok(frames) = Frames::formatted(alloc, count) else {
+            return Err((AllocError, store));
+        };
+        let Ok(states) = PageStates::new(alloc, count) else {
+            return Err((AllocError, store));
+        };
         Ok(Pool {
             store,
             limit: count,
@@ -130,6 +145,19 @@ impl<S: PageStore + Drop> Pool<S> {
 }
 
 impl<S: PageStore> Pool<S> {
+    /// Ends the pool, and hands the store back as it is: no dirty page is stored.
+    pub fn into_store(self) -> S
+        ensures { result ≡ self.store }
+    {
+        let Pool {
+            store,
+            limit: _,
+            frames: _,
+            states: _,
+        } = self;
+        store
+    }
+
     /// How many pages the volume has.
     pub fn pages(&self) -> u32
         ensures states { result ≡ length self.now.states }
@@ -156,9 +184,11 @@ impl<S: PageStore> Pool<S> {
         self.frames.len() >= self.limit as usize && self.frames.first_clean(&self.states).is_none()
     }
 
-    /// Makes room for one page to come in. `AllocError` comes where it is refused. The pages stay.
+    /// Makes room for one page to come in. `AllocError` comes where there is none and it is refused.
+    /// The pages stay.
     pub fn make_room(&mut self) -> Result<(), AllocError>
         ensures room { OnOk result (0 < self.new.room) }
+        ensures needed { OnErr result (self.old.room ≡ 0) }
         ensures same { self.new ≡ record self.old { room = self.new.room } }
         ensures kept { (log : Log) → IsPoolOf S.stored log self.old
             → IsPoolOf S.stored log self.new }

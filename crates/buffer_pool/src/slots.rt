@@ -2,7 +2,7 @@
 
 ghost use Rattle.std.specs.Prelude.{◌≡◌, ◌+◌, ◌-◌, ◌*◌, ◌<◌, ◌≤◌, ◌++◌, [], ◌∷◌, None, Some, false};
 ghost use Rattle.std.specs.Prelude.{length, map, is_some, slice_get, slice_index_or, slice_set};
-ghost use Rattle.std.specs.Prelude.{IfOk, IfSome, IsSome, OnOk, nat_eq, nat_le};
+ghost use Rattle.std.specs.Prelude.{IfOk, IfSome, IsSome, OnErr, OnOk, nat_eq, nat_le};
 ghost use Rattle.std.specs.List.{Contains};
 ghost use Rattle.std.specs.Option.{option_copied, option_map};
 ghost use Rattle.indexmap.specs.IndexMap.{get, spare};
@@ -131,6 +131,7 @@ impl Slots {
     /// Makes room for one slot more. `AllocError` comes where it is refused.
     pub(crate) fn reserve(&mut self) -> Result<(), AllocError>
         ensures room { OnOk result (0 < self.new.spare) }
+        ensures needed { OnErr result (self.old.spare ≡ 0) }
         ensures same { self.new.list ≡ self.old.list }
     {
         self.slots.reserve(1)

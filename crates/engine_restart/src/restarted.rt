@@ -7,7 +7,7 @@ ghost use Rattle.engine_restart.specs.Lives.{GoesOnFrom};
 ghost use Rattle.engine_restart.specs.Restart.{HasLasting, IsRestarted};
 ghost use Rattle.engine_rules.specs.Resumed.{IsLeftBy, MayResume, resumed_state};
 
-use aries_core::{Engine, Legacy};
+use aries_core::{Engine, Legacy, NotResumed};
 use copy_vault::Vault;
 use log_records::Record;
 use log_store::{LogDevice, LogImage};
@@ -15,7 +15,6 @@ use page_core::Page;
 use page_store::PageStore;
 use std::alloc::Global;
 use std::marker::Model;
-use txn_table::TablesFault;
 
 /// A log in which no transaction is open any more, the pages that it makes, and the image copies
 /// that are at hand: an engine may go on from there.
@@ -76,14 +75,14 @@ impl Restarted {
     }
 
     /// An engine that goes on from there, over a store that has these pages and a device that has
-    /// this log. It is as `Engine::resume` says, with its faults.
+    /// this log. It is as `Engine::resume` says, with its faults, which hand both back.
     pub fn into_engine<S: PageStore + Drop, D: LogDevice + Drop>(
         self,
         alloc: Global,
         frames: u32,
         store: S,
         device: D,
-    ) -> Result<Engine<S, D>, TablesFault>
+    ) -> Result<Engine<S, D>, NotResumed<S, D>>
         requires frames { IsFrameCount frames }
         requires stored { S.stored store ≡ self.pages }
         requires device { HasLasting D.bytes D.lasting self.log device }
@@ -95,7 +94,8 @@ impl Restarted {
         ensures store { IfOk result (λ it. it.store ≡ store) }
         ensures device { IfOk result (λ it. it.device ≡ device) }
         ensures goes_on { IfOk result (λ it. GoesOnFrom self.log it.state) }
-        ensures fault { IfErr result (IsLeftBy self.log) }
+        ensures fault { IfErr result (λ e. IsLeftBy self.log e.fault) }
+        ensures untouched { IfErr result (λ e. (e.store ≡ store) × (e.device ≡ device)) }
     {
         let Restarted { log, pages, vault } = self;
         let legacy = Legacy { log, vault };

@@ -122,8 +122,21 @@ impl<S: PageStore + Drop, D: LogDevice + Drop, G: Ledger> Held<S, D, G> {
         ensures master { result.master ≡ option_map master_record self.engine.state.master }
         ensures copies { result.copies ≡ self.engine.state.copies }
     {
+        let (retired, _, _) = self.into_parts();
+        retired
+    }
+
+    /// As `retire`, but the store and the device are handed back, as they are: neither is called.
+    pub fn into_parts(self) -> (Retired, S, D)
+        ensures log { result.0.log ≡ log_of self.engine.state }
+        ensures forced_end { result.0.forced_end ≡ self.engine.state.forced_end }
+        ensures master { result.0.master ≡ option_map master_record self.engine.state.master }
+        ensures copies { result.0.copies ≡ self.engine.state.copies }
+        ensures store { result.1 ≡ self.engine.store }
+        ensures device { result.2 ≡ self.engine.device }
+    {
         let Held { engine, book: _ } = self;
-        engine.retire()
+        engine.into_parts()
     }
 }
 

@@ -135,7 +135,7 @@ pub fn reopen_files(
             cut,
             refused,
         }),
-        Err(fault) => Err(ReopenFault::Tables(fault)),
+        Err(not) => Err(ReopenFault::Tables(not.fault)),
     }
 }
 

@@ -90,9 +90,11 @@ impl<D: LogDevice> Log<D> {
         Log { stored, index }
     }
 
-    /// Makes room for one record more. An `Err` comes where it is refused. The log stays as it is.
+    /// Makes room for one record more. An `Err` comes where there is none and it is refused. The log
+    /// stays as it is.
     pub fn make_room(&mut self) -> Result<(), AllocError>
         ensures room { OnOk result (0 < self.new.room) }
+        ensures needed { OnErr result (self.old.room ≡ 0) }
         ensures same { self.new.log ≡ self.old.log }
         ensures forced_end { self.new.forced_end ≡ self.old.forced_end }
         ensures device { self.new.device ≡ self.old.device }

@@ -238,10 +238,11 @@ fn run(rt: &impl Abort, alloc: Global, pages: u32, k: u64, rows: &[Row]) -> Resu
     requires { IsPageCount pages }
 {
     let store = FaultyStore::new(alloc, MemStore::new(alloc, pages)?, k)?;
-    let mut play = Play {
-        pool: Pool::whole(alloc, store)?,
-        records: 0,
+    let pool = match Pool::whole(alloc, store) {
+        Ok(pool) => pool,
+        Err((refused, _)) => return Err(refused),
     };
+    let mut play = Play { pool, records: 0 };
     play.begin(rt);
     let done = play.follow_each(rt, rows);
     drop(play);
@@ -260,10 +261,11 @@ fn run_in_frames(
     requires { IsPageCount pages }
 {
     let store = FaultyStore::new(alloc, MemStore::new(alloc, pages)?, k)?;
-    let mut play = Play {
-        pool: Pool::new(alloc, store, frames)?,
-        records: 0,
+    let pool = match Pool::new(alloc, store, frames) {
+        Ok(pool) => pool,
+        Err((refused, _)) => return Err(refused),
     };
+    let mut play = Play { pool, records: 0 };
     play.begin(rt);
     let done = play.follow_each(rt, rows);
     drop(play);

@@ -1,7 +1,7 @@
 //! Where a transaction may go back to: its savepoints.
 
 ghost use Rattle.std.specs.Prelude.{ℕ, ◌≡◌, ◌↔◌, ◌<◌, ◌++◌, List, [], ◌∷◌, true, false, length};
-ghost use Rattle.std.specs.Prelude.{Contains, IfSome, IsOk, IsSome, IsTrue, OnOk};
+ghost use Rattle.std.specs.Prelude.{◌≤◌, Contains, IfSome, IsOk, IsSome, IsTrue, OnErr, OnOk};
 ghost use Rattle.std.specs.Prelude.{◌==◌, None, Some, if◌then◌else◌};
 ghost use Rattle.std.specs.Option.{option_to_list};
 ghost use Rattle.log_records.specs.declared.record.Record.{Record};
@@ -57,6 +57,7 @@ impl Returns {
         ensures same { self.new.made ≡ self.old.made }
         ensures room { OnOk result (IsSome back.now → length self.new.made < self.new.room) }
         ensures nothing { back.now ≡ None → IsOk result }
+        ensures needed { OnErr result (self.old.room ≤ length self.old.made) }
     {
         match back {
             Some(_) => self.made.reserve(1),

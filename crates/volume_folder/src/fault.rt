@@ -2,9 +2,12 @@
 
 use crate::evidence::Loss;
 use crate::place::Place;
+use aries_core::NotResumed;
 use engine_restart::{FoundFault, FoundLogFault, RestartFault};
 use file_devices::FailedFile;
+use log_store::LogDevice;
 use page_core::FaultName;
+use page_store::PageStore;
 use saved_files::FileFault;
 use std::alloc::{AllocError, AllocFailed};
 use std::io;
@@ -143,9 +146,9 @@ impl From<FoundLogFault> for OpenFault {
     }
 }
 
-impl From<TablesFault> for OpenFault {
-    fn from(fault: TablesFault) -> OpenFault {
-        match fault {
+impl<S: PageStore + Drop, D: LogDevice + Drop> From<NotResumed<S, D>> for OpenFault {
+    fn from(not: NotResumed<S, D>) -> OpenFault {
+        match not.fault {
             TablesFault::OutOfMemory => OpenFault::OutOfMemory,
             TablesFault::NoRoom => OpenFault::NoRoom,
         }

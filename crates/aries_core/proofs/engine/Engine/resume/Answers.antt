@@ -16,10 +16,10 @@ use Rattle.aries_core.proofs.engine.Engine.resume.Goals as goal
 
 pub returns-clause-state : goal.returns-clause-state
 returns-clause-state g c =
-    resumed_is g.S.PageStore.stored c.resume-2.result c.in-Ok.pool c.args.store c.args.legacy.log c.args.frames
-    (media_view c.checkpoints_of-last.result.last c.session_of.result c.args.legacy.vault.copies c.in_ok-txns.returns.made)
+    resumed_is g.S.PageStore.stored c.resume-2.result c.in-Ok-resume.pool c.args.store c.args.legacy.log c.args.frames
+    (media_view c.checkpoints_of-last.result.last c.session_of.result c.args.legacy.vault.copies c.in-Ok.tables.1.made)
     c.resume-2.ensures.log c.resume-2.ensures.forced_end
-    (c.in-Ok.ensures.clean ∙ ap (λ (ps : List Page). clean_pool c.args.store ps c.args.frames) c.requires.pages)
+    (c.in-Ok-resume.ensures.clean ∙ ap (λ (ps : List Page). clean_pool c.args.store ps c.args.frames) c.requires.pages)
     (c.requires.stored ∙ c.requires.pages) (c.session_of.ensures ∙ c.checkpoints_of-last.ensures.«open»)
 
 pub invariant_of-result : goal.invariant_of-result
@@ -33,14 +33,14 @@ invariant_of-result g c =
     record {
       fit = subst IsFit (sym state) (resumed_fit log c.args.frames c.checkpoints_of-last.result.last
           c.args.legacy.vault.copies valid c.requires.may
-          (subst HasRoomForUndo records c.in_ok-txns.ensures.room) c.checkpoints_of-last.ensures.last);
-      table_of_log = subst (λ (l : Log). IsTableOf l.records c.in_ok-txns.txns.table) (sym log_is)
-          (subst (λ (rs : List Record). IsTableOf rs c.in_ok-txns.txns.table) records c.in_ok-txns.ensures.table);
-      pool_of_log = subst (λ (l : Log). IsPoolOf stored l c.in-Ok.pool) (sym log_is)
-          (c.in-Ok.ensures.of_log log valid c.requires.pages);
+          (subst HasRoomForUndo records c.in-Ok.ensures.room) c.checkpoints_of-last.ensures.last);
+      table_of_log = subst (λ (l : Log). IsTableOf l.records c.in-Ok.tables.0.table) (sym log_is)
+          (subst (λ (rs : List Record). IsTableOf rs c.in-Ok.tables.0.table) records c.in-Ok.ensures.table);
+      pool_of_log = subst (λ (l : Log). IsPoolOf stored l c.in-Ok-resume.pool) (sym log_is)
+          (c.in-Ok-resume.ensures.of_log log valid c.requires.pages);
       session_of_log = c.session_of.ensures ∙ c.checkpoints_of-last.ensures.«open»
           ∙ session_for log (open_checkpoint log.records)
           ∙ ap (λ (s : EngineState). option_map (session_of (log_of s) s.left) (open_checkpoint s.log)) (sym state);
-      returns_of_log = c.in_ok-txns.ensures.returns ∙ ap returns_of records
+      returns_of_log = c.in-Ok.ensures.returns ∙ ap returns_of records
           ∙ ap (λ (l : Log). returns_of l.records) (sym log_is);
     }

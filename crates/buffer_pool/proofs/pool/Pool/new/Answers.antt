@@ -27,16 +27,16 @@ invariant_of-result g c =
     let count = c.pages-count.result in
     let same : count ≡ n =
     c.pages-count.ensures.count ∙ ap length c.requires.1.1 ∙ length-map-range_with_len formatted 0 n in
-    let states : length c.in_ok-states.states ≡ count =
-    ap (length {A = PageState}) c.in_ok-states.ensures ∙ length-replicate count unwritten in
+    let states : length c.in-Ok.states ≡ count =
+    ap (length {A = PageState}) c.in-Ok.ensures ∙ length-replicate count unwritten in
     record {
       whole = record {
         few = omega (arith, c.requires.1.0.most);
         enough = omega (arith, c.pages-count.ensures.count, states);
         stored_numbers = c.pages-count.ensures.numbered;
       };
-      sought = sought_empty (is_clean_in c.in_ok-states.states) c.in_ok-held.held.slots c.in_ok-held.held.marks
-          c.in_ok-held.ensures.slots;
+      sought = sought_empty (is_clean_in c.in-Ok.states) c.in-Ok-new.held.slots c.in-Ok-new.held.marks
+          c.in-Ok-new.ensures.slots;
     }
 
 -- so many pages are stored
@@ -50,24 +50,24 @@ returns-clause-new g c = λ n holds.
     ap (λ (pages : List Page). record {
       store = c.args.store;
       frames = c.args.frames;
-      room = c.in_ok-held.held.room;
+      room = c.in-Ok-new.held.room;
       resident = pages;
-      states = c.in_ok-states.states;
-    }) c.in_ok-held.ensures.pages
+      states = c.in-Ok.states;
+    }) c.in-Ok-new.ensures.pages
     ∙ ap (λ (room : ℕ). record {
       store = c.args.store;
       frames = c.args.frames;
       room = room;
       resident = [];
-      states = c.in_ok-states.states;
-    }) c.in_ok-held.ensures.room
+      states = c.in-Ok.states;
+    }) c.in-Ok-new.ensures.room
     ∙ ap (λ (states : List PageState). record {
       store = c.args.store;
       frames = c.args.frames;
       room = 0;
       resident = [];
       states = states;
-    }) (c.in_ok-states.ensures ∙ ap (λ (k : ℕ). replicate k unwritten) same)
+    }) (c.in-Ok.ensures ∙ ap (λ (k : ℕ). replicate k unwritten) same)
 
 pub returns-clause-empty : goal.returns-clause-empty
 returns-clause-empty g c = λ n holds.

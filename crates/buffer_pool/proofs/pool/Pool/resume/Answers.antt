@@ -9,24 +9,24 @@ returns-clause-clean g c =
     ap (λ (pages : List Page). record {
       store = c.args.store;
       frames = c.args.frames;
-      room = c.in_ok-held.held.room;
+      room = c.in-Ok-new.held.room;
       resident = pages;
-      states = c.in_ok-states.states;
-    }) c.in_ok-held.ensures.pages
+      states = c.in-Ok.states;
+    }) c.in-Ok-new.ensures.pages
     ∙ ap (λ (room : ℕ). record {
       store = c.args.store;
       frames = c.args.frames;
       room = room;
       resident = [];
-      states = c.in_ok-states.states;
-    }) c.in_ok-held.ensures.room
+      states = c.in-Ok.states;
+    }) c.in-Ok-new.ensures.room
     ∙ ap (λ (states : List PageState). record {
       store = c.args.store;
       frames = c.args.frames;
       room = 0;
       resident = [];
       states = states;
-    }) c.in_ok-states.ensures
+    }) c.in-Ok.ensures
 
 pub returns-clause-of_log : goal.returns-clause-of_log
 returns-clause-of_log g c = λ log valid are.

@@ -38,16 +38,16 @@ invariant_of-result g c =
     let count = c.pages-count.result in
     let same : count ≡ n =
     c.pages-count.ensures.count ∙ ap length c.requires.1.1 ∙ length-map-range_with_len formatted 0 n in
-    let states : length c.in_ok-states.states ≡ count =
-    ap (length {A = PageState}) c.in_ok-states.ensures ∙ length-replicate count unwritten in
+    let states : length c.in-Ok-new.states ≡ count =
+    ap (length {A = PageState}) c.in-Ok-new.ensures ∙ length-replicate count unwritten in
     record {
       whole = record {
         few = omega (arith, c.requires.1.0.most);
         enough = omega (arith, c.pages-count.ensures.count, states);
         stored_numbers = c.pages-count.ensures.numbered;
       };
-      sought = sought_all (is_clean_in c.in_ok-states.states) c.in_ok-frames.frames.slots c.in_ok-frames.frames.marks
-          c.in_ok-frames.ensures.sought;
+      sought = sought_all (is_clean_in c.in-Ok-new.states) c.in-Ok.frames.slots c.in-Ok.frames.marks
+          c.in-Ok.ensures.sought;
     }
 
 -- so many pages are stored
@@ -58,28 +58,28 @@ count_is stored_in store count n long holds = long ∙ ap length holds ∙ lengt
 pub returns-clause-new : goal.returns-clause-new
 returns-clause-new g c = λ n holds.
     let same = count_is g.S.PageStore.stored c.args.store c.pages-count.result n c.pages-count.ensures.count holds in
-    let room = c.in_ok-frames.frames.room in
+    let room = c.in-Ok.frames.room in
     ap (λ (count : ℕ). record {
       store = c.args.store;
       frames = count;
       room = room;
-      resident = c.in_ok-frames.frames.pages;
-      states = c.in_ok-states.states;
+      resident = c.in-Ok.frames.pages;
+      states = c.in-Ok-new.states;
     }) same
     ∙ ap (λ (pages : List Page). record {
       store = c.args.store;
       frames = n;
       room = room;
       resident = pages;
-      states = c.in_ok-states.states;
-    }) (c.in_ok-frames.ensures.pages ∙ ap formatted_pages same)
+      states = c.in-Ok-new.states;
+    }) (c.in-Ok.ensures.pages ∙ ap formatted_pages same)
     ∙ ap (λ (states : List PageState). record {
       store = c.args.store;
       frames = n;
       room = room;
       resident = formatted_pages n;
       states = states;
-    }) (c.in_ok-states.ensures ∙ ap (λ (k : ℕ). replicate k unwritten) same)
+    }) (c.in-Ok-new.ensures ∙ ap (λ (k : ℕ). replicate k unwritten) same)
 
 -- room for more pages says nothing of a pool
 roomy : {S : Type 0} (stored_in : S → List Page) (n room : ℕ) (pool : PoolView S)
@@ -104,5 +104,5 @@ returns-clause-empty g c = λ n holds.
     let same = count_is stored_in store c.pages-count.result n count holds in
     let given = count_is stored_in store c.pages-count.result c.requires.0 count c.requires.1.1 in
     subst (IsPoolOf stored_in (record { pages = n; records = [] })) (sym (returns-clause-new g c n holds))
-    (roomy stored_in n (c.in_ok-frames.frames.room) (whole_pool store n)
+    (roomy stored_in n (c.in-Ok.frames.room) (whole_pool store n)
     (pool_whole stored_in store n (subst IsPageCount (sym given ∙ same) c.requires.1.0) holds))

@@ -6,10 +6,10 @@ use Rattle.copy_coverage.specs.Retired.{IsRetired}
 use Rattle.engine_rules.specs.EngineView.{engine_view}
 use Rattle.aries_core.specs.OpenCkpt.{media_view}
 use Rattle.aries_core.proofs.Retires.{left_by}
-use Rattle.aries_core.proofs.engine.Engine.retire.Goals as goal
+use Rattle.aries_core.proofs.engine.Engine.into_parts.Goals as goal
 
-pub new-requires : goal.new-requires
-new-requires g c =
+pub new-retired-requires : goal.new-retired-requires
+new-retired-requires g c =
     let it = c.self.inside in
     let s = (engine_view g.S.PageStore.stored it.log it.pool
     (media_view it.master it.session it.vault.copies it.returns.made)).state in
