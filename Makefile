@@ -22,7 +22,7 @@
 #                 draws bench/copies.svg, sessions beside a plain engine behind a mutex, and commits on files beside
 #                 those of SQLite, where sqlite3 is there
 # make examples   makes the example logs and their expected answers again
-# make contracts  makes docs/CONTRACTS.md and docs/contracts/ again, from the sources
+# make contracts  writes the contract of each public item to build/contracts/, from the sources; its README.md is the index
 # make install    puts the program, its manual page, the completions of bash, zsh and fish, the guide and the formats below
 #                 PREFIX, by default /usr/local
 # make clean      removes build/, and keeps the proofs that rt keeps for itself

@@ -3,8 +3,8 @@
 usage: python3 -m checks.kv PROGRAM [KILLS] LIBRARY
        python3 -m checks.kv --can     says by its status whether the crates are proved on this machine
 
-The crates that the store stands on are copied into a root of their own, and `rt ci` proves the store there. What it has
-proved of these crates on this machine it does not prove again; where it has not, it would prove them for an hour, so
+`tools/new_root.py` makes a root with the crates that the store stands on, as docs/USING.md says, and `rt ci` proves the
+store there. What it has proved of these crates on this machine it does not prove again; where it has not, it would prove them for an hour, so
 `--can` gives them five minutes. The store is killed KILLS times, 10 where none is told. Each time:
 
 - Each key that it tells when it is run again has the number that was told last, or that of one more put a writer, of
@@ -36,16 +36,6 @@ KILLS, WRITERS, MOST_PUTS, LAST_PUTS = 10, 2, 100_000, 300
 SECONDS_OF_A_LOOK, SECONDS_OF_A_BUILD, MOST_SECONDS = 300, 3600, 120
 
 
-def libraries():
-    """The lines of crates.txt for the crates that the store stands on."""
-    lines = [line for line in (ROOT / "crates.txt").read_text(encoding="utf-8").splitlines() if ":" in line]
-    by_name = {line.partition(":")[0].strip(): line for line in lines if not line.startswith("#")}
-    names = ["imgcopy_engine"]
-    for name in names:
-        names += [other for other in by_name[name].partition(":")[2].split() if other in by_name and other not in names]
-    return {name: by_name[name] for name in names}
-
-
 def prove(root, names, seconds):
     """Has the crates of these names proved, and those that they stand on; or all, whose programs are left in out/."""
     child = subprocess.Popen(["rt", "ci", *names], cwd=root, stdin=subprocess.DEVNULL, stdout=subprocess.PIPE,
@@ -61,18 +51,13 @@ def prove(root, names, seconds):
 
 
 def make_root(place):
-    """A root of its own, with the store and the crates that it stands on, but none of their wrong bodies."""
+    """A root of its own, with the crates that the store stands on, and the store."""
     root = place / "root"
-    sources = root / "crates" / "kv" / "src"
-    sources.mkdir(parents=True)
-    shutil.copy(EXAMPLE / "HANDLES", root)
+    made = subprocess.run([sys.executable, ROOT / "tools" / "new_root.py", root, "kv"], capture_output=True, text=True)
+    if made.returncode != 0:
+        raise Failure(f"new_root.py: status {made.returncode}, {made.stderr[-300:]!r}")
     for source in EXAMPLE.glob("*.rt.txt"):
-        shutil.copy(source, sources / source.stem)
-    for name in libraries():
-        shutil.copytree(ROOT / "crates" / name, root / "crates" / name,
-                        ignore=shutil.ignore_patterns("out", "must-fail"))
-    own = (EXAMPLE / "line.txt").read_text(encoding="utf-8")
-    (root / "crates.txt").write_text("\n".join([*libraries().values(), own]), encoding="utf-8")
+        shutil.copy(source, root / "crates" / "kv" / "src" / source.stem)
     # The gate runs it without words.
     (root / "crates" / "kv" / "status").write_text("2\n", encoding="utf-8")
     return root

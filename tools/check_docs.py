@@ -1,6 +1,13 @@
 #!/usr/bin/env python3
-"""Looks up what the documents name in backticks, and fails where the repository does not have it, or where a crate's
-README does not name a file of its `src`, or where docs/WRONG_BODIES.md does not name a crate's wrong bodies of the gate.
+"""Looks up what the documents name in backticks, also the pages that `make contracts` writes, which have the
+documentation of each public item, and fails where the repository does not have it. It fails, too, where
+
+- a link of a document leads to no file, or to no heading of one,
+- a crate's README does not name a file of its `src`,
+- crates/README.md does not draw the layers and the crates of crates.txt in the same order, or a crate stands there
+  above one that it stands on,
+- a contract of docs/CONTRACTS.md is not in the file that its row links, or lacks a clause that the row names,
+- docs/WRONG_BODIES.md does not name a crate's wrong bodies of the gate, or the manual page the latest version.
 
 usage: check_docs.py
 
@@ -15,7 +22,8 @@ import re
 import sys
 from pathlib import Path
 
-from repository import ROOT, crates
+import contracts
+from repository import ROOT, crates, lines_of_crates
 
 SUFFIXES = (".rt", ".antt", ".md", ".py", ".rs", ".sh", ".edit", ".log", ".volume", ".fault", ".svg", ".txt")
 # The files whose words count, and what counts for nothing in them.
@@ -31,6 +39,10 @@ ANY = re.compile(r"\b(NAME|CRATE)\b")
 SPAN = re.compile(r"`((?:[^`\n]|\n(?!\n))+)`")
 FENCE = re.compile(r"^```.*?^```", re.DOTALL | re.MULTILINE)
 NAME = re.compile(r"([A-Za-z_]\w*(?:::\w+)*)(?:\(.*\))?")
+LINK = re.compile(r"\]\(([^)\s#]*)(?:#([^)\s]*))?\)")
+# A layer or a crate in the picture of crates/README.md, and a contract in a row of docs/CONTRACTS.md.
+DRAWN = re.compile(r"^(?:(\S.*)|  (\w+) +\S.*)$", re.MULTILINE)
+CARRIER = re.compile(r"^\| .* \| \[`(\w+)::([\w:]+)`\]\((\S+)\) \| (.*) \|$")
 
 
 class Sources:
@@ -76,15 +88,34 @@ def code_of(path):
 def documents():
     yield ROOT / "README.md"
     yield ROOT / "CHANGELOG.md"
-    for pattern in ("docs/*.md", "docs/contracts/*.md", "bench/*.md", "model/*.md", "checks/*.md", "crates/*/*.md"):
-        yield from sorted(ROOT.glob(pattern))
+    for folder in ("docs", "bench", "model", "checks", "examples/*", "crates", "crates/*"):
+        yield from sorted(ROOT.glob(f"{folder}/*.md"))
 
 
-def spans(text):
-    """What stands in backticks, outside of blocks of code, each with the number of its line."""
-    shown = FENCE.sub(lambda found: re.sub(r"[^\n]", "", found.group()), text)
+def texts():
+    """Each document and each page of contracts, and its text without blocks of code."""
+    blank = lambda found: re.sub(r"[^\n]", "", found.group())
+    written = {path: path.read_text(encoding="utf-8") for path in documents()}
+    for path, text in {**written, **contracts.documents(list(contracts.shown_crates()))}.items():
+        yield path, FENCE.sub(blank, text)
+
+
+def spans(shown):
+    """What stands in backticks, each with the number of its line."""
     for found in SPAN.finditer(shown):
         yield shown.count("\n", 0, found.start()) + 1, " ".join(found[1].split())
+
+
+def lost_links(path, shown, places):
+    """The links of a document that lead to no file, or to no heading of a document."""
+    for found in LINK.finditer(re.sub(r"`[^`\n]*`", "", shown)):
+        file, place = found.groups()
+        if file.startswith(("http:", "https:")):
+            continue
+        target = (path.parent / file).resolve() if file else path
+        if not target.exists() and target not in places or place and place not in places.get(target, ()):
+            line = re.sub(r"`[^`\n]*`", "", shown).count("\n", 0, found.start()) + 1
+            yield f"{path.relative_to(ROOT)}:{line}: its link to {found[0][2:-1]} leads nowhere"
 
 
 def fault_of(span, folder, sources):
@@ -136,6 +167,50 @@ def other_wrong_bodies():
             yield f"docs/WRONG_BODIES.md: it {kind} {crate}/{body}"
 
 
+def other_layers():
+    """Where crates/README.md draws other layers or crates than crates.txt, or this has one above what it stands on."""
+    lines = (ROOT / "crates.txt").read_text(encoding="utf-8").partition("\n\n")[2].splitlines()
+    listed = [line.removeprefix("# ").partition(":")[0] for line in lines if line]
+    picture = FENCE.search((ROOT / "crates" / "README.md").read_text(encoding="utf-8"))[0].partition("\n")[2]
+    drawn = [layer or crate for layer, crate in DRAWN.findall(picture.rpartition("\n")[0])]
+    for here, there in zip(drawn + [None] * len(listed), listed + [None] * len(drawn)):
+        if here != there:
+            yield f"crates/README.md: it draws {here!r} where crates.txt has {there!r}"
+            break
+    above = set()
+    for crate, line in lines_of_crates().items():
+        lower = [other for other in line.partition(":")[2].split() if other in crates() and other not in above]
+        yield from (f"crates.txt: {crate} stands above {other}, which it stands on" for other in lower)
+        above.add(crate)
+
+
+def lacking_contracts():
+    """The contracts of docs/CONTRACTS.md that are not in the file that their row links, or lack a clause."""
+    for line in (ROOT / "docs" / "CONTRACTS.md").read_text(encoding="utf-8").splitlines():
+        found = CARRIER.match(line)
+        if found:
+            row = f"docs/CONTRACTS.md: {found[1]}::{found[2]}"
+            yield from (f"{row}: {fault}" for fault in faults_of_row(*found.groups()))
+        elif line.startswith("| ") and not line.startswith("| What "):
+            yield f"docs/CONTRACTS.md: no contract can be read in the row {line[:60]!r}"
+
+
+def faults_of_row(crate, name, link, clauses):
+    path = (ROOT / "docs" / link).resolve()
+    if ROOT / "crates" / crate / "src" not in path.parents or not path.exists():
+        yield f"{link} is no file of this crate"
+        return
+    items = contracts.items_of(path.read_text(encoding="utf-8"))
+    heads = [item.text for item in items if item.kind == "fn"
+             and name == (f"{contracts.subject_of(item)}::{item.name}" if item.owner else item.name)]
+    if not heads:
+        yield f"{path.name} has no such function"
+    # A law that is named as a whole, and a contract of one clause, need just have clauses.
+    for clause in re.findall(r"`(\w+)`", clauses) or [r"\w*"]:
+        if heads and not any(re.search(rf"\bensures {clause} ?\{{", head) for head in heads):
+            yield f"it has no clause {clause}"
+
+
 def fault_of_version():
     """What is wrong with the version that the manual page tells, or None."""
     latest = re.search(r"^## (\S+),", (ROOT / "CHANGELOG.md").read_text(encoding="utf-8"), re.MULTILINE)[1]
@@ -147,13 +222,17 @@ def fault_of_version():
 
 def main():
     sources, count = Sources(), 0
-    faults = [fault for fault in [fault_of_version(), *unnamed_files(), *other_wrong_bodies()] if fault]
-    for document in documents():
-        for line, span in spans(document.read_text(encoding="utf-8")):
-            fault = fault_of(span, document.parent, sources)
+    faults = [*unnamed_files(), *other_layers(), *lacking_contracts(), *other_wrong_bodies()]
+    faults += filter(None, [fault_of_version()])
+    shown = dict(texts())
+    places = {path: set(contracts.anchors_of(contracts.HEADING.findall(text))) for path, text in shown.items()}
+    for path, text in shown.items():
+        faults += lost_links(path, text, places)
+        for line, span in spans(text):
+            fault = fault_of(span, path.parent, sources)
             count += 1
             if fault:
-                faults.append(f"{document.relative_to(ROOT)}:{line}: `{span}`: {fault}")
+                faults.append(f"{path.relative_to(ROOT)}:{line}: `{span}`: {fault}")
     if faults:
         sys.exit("\n".join(faults))
     print(f"ok documents: what they name in {count} places is there")

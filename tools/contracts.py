@@ -1,9 +1,10 @@
 #!/usr/bin/env python3
-"""Makes docs/CONTRACTS.md, the index of the public items of each crate, and docs/contracts/CRATE.md for each crate: its
-items with their signatures and the full text of their clauses, and the crate's wrong bodies.
+"""Makes build/contracts/README.md, the index of the public items of each crate, and build/contracts/CRATE.md for each
+crate: its items with their signatures and the full text of their clauses, and the crate's wrong bodies.
 
 usage: contracts.py            writes them
-       contracts.py --check    fails if they are not what the sources give
+       contracts.py --check    writes nothing, and fails if they cannot be made, if the page of a crate lacks a function
+                               that users can name, or if a link of theirs leads nowhere
 
 It reads the sources by their layout, which is that of `rt fmt`: the items of a module begin at the start of a line, and
 those of an `impl` or a `trait` behind four spaces.
@@ -19,11 +20,11 @@ from typing import NamedTuple, Optional
 
 from repository import ROOT, crates
 
-DOCUMENT = ROOT / "docs" / "CONTRACTS.md"
-PAGES = ROOT / "docs" / "contracts"
+PAGES = ROOT / "build" / "contracts"
+INDEX = PAGES / "README.md"
 
 INTRODUCTION = """\
-# Contracts
+# All contracts
 
 The public items of each crate of `crates.txt` that can be named from outside the crate, or all of them where the crate
 is a program, with the first sentence of what the source says of each. An item leads to its place on the page of its
@@ -39,7 +40,7 @@ PAGE = """\
 The public items of `crates/{crate}`, file by file, with what the source says of each, its signature, and its clauses.
 `requires` is what a caller has to show, and `ensures` what it may count on. Where an item is of an `impl` with
 parameters, a comment names that. The lines `ghost use` of a file say in which crate, and in which file of its `specs`,
-the words of its clauses are defined. [The index](../CONTRACTS.md) has the other crates.
+the words of its clauses are defined. [The index](README.md) has the other crates.
 """
 
 WRONG_BODIES = """\
@@ -58,6 +59,10 @@ MODULE = re.compile(r"^(pub |)mod (\w+);", re.MULTILINE)
 EXPORT = re.compile(r"^pub use (.*?);", re.DOTALL | re.MULTILINE)
 WORDS = re.compile(r"^( *)ghost use .*?;", re.DOTALL | re.MULTILINE)
 CLAUSE = re.compile(r"\b(?:requires|ensures)\b")
+# The head of an `impl`, and a public function, by a look at their lines alone.
+PLAIN = re.compile(r"^(?:unsafe )?(impl\b[^{]*)|^( {4}|)pub (?:const |unsafe )*fn (\w+)", re.MULTILINE)
+HEADING = re.compile(r"^#+ (.*)$", re.MULTILINE)
+LINK = re.compile(r"\]\(([\w.]+\.md)(?:#([\w-]+))?\)")
 # A line of a struct that has a private field.
 FIELD = re.compile(r"^    (?!pub |///|#\[)\S.*\n", re.MULTILINE)
 
@@ -309,10 +314,13 @@ def place_of(before):
 
 
 class Crate(NamedTuple):
-    """A crate: its modules, of each file what users can name, and the items of other crates that it passes on."""
+    """A crate: its modules, the names that it exports of those that users cannot name, of each file what users can
+    name, and the items of other crates that it passes on.
+    """
 
     name: str
     modules: list
+    exports: set
     rows: list
     passed: list
 
@@ -323,7 +331,7 @@ class Crate(NamedTuple):
 def shown_crates():
     for name in crates():
         found, exports = modules_of(name)
-        crate = Crate(name, found, [list(rows_of(module, exports)) for module in found], list(passed_on(name)))
+        crate = Crate(name, found, exports, [list(rows_of(module, exports)) for module in found], list(passed_on(name)))
         if crate.shown() or crate.passed:
             yield crate
 
@@ -351,27 +359,34 @@ def place_of_item(by_name, crate, name):
 
 def anchors(crate):
     """The anchor of each heading of an item on the page of a crate, in their order."""
-    seen = Counter()
+    titles = []
     for module, rows in zip(crate.modules, crate.rows):
-        headings = [str(module.file.relative_to(ROOT / "crates" / crate.name))] if rows else []
-        for place, heading in enumerate(headings + [row.item for row in rows]):
-            anchor = re.sub(r"[^\w -]", "", heading.lower()).replace(" ", "-")
-            if place:
-                yield f"{anchor}-{seen[anchor]}" if seen[anchor] else anchor
-            seen[anchor] += 1
+        if rows:
+            titles += [str(module.file.relative_to(ROOT / "crates" / crate.name)), *rows]
+    names = (title if isinstance(title, str) else title.item for title in titles)
+    yield from (anchor for title, anchor in zip(titles, anchors_of(names)) if not isinstance(title, str))
+
+
+def anchors_of(headings):
+    """The anchors of headings that follow one another on a page."""
+    seen = Counter()
+    for heading in headings:
+        anchor = re.sub(r"[^\w -]", "", heading.lower()).replace(" ", "-")
+        yield f"{anchor}-{seen[anchor]}" if seen[anchor] else anchor
+        seen[anchor] += 1
 
 
 def section(crate):
     """The items of a crate in the index."""
     yield f"## {crate.name}\n"
     if crate.passed:
-        yield f"It also [passes on items of other crates](contracts/{crate.name}.md#passed-on-of-other-crates).\n"
+        yield f"It also [passes on items of other crates]({crate.name}.md#passed-on-of-other-crates).\n"
     if not crate.shown():
         return
     yield "| Item | What it is |"
     yield "|---|---|"
     for row, anchor in zip(crate.shown(), anchors(crate)):
-        cells = [f"[`{row.item}`](contracts/{crate.name}.md#{anchor})", first_sentence(row.doc)]
+        cells = [f"[`{row.item}`]({crate.name}.md#{anchor})", first_sentence(row.doc)]
         yield f"| {' | '.join(cell.replace('|', chr(92) + '|') for cell in cells)} |"
     yield ""
 
@@ -404,41 +419,64 @@ def block(text):
     return ["```rust", text, "```", ""] if text else []
 
 
-def documents():
-    """The text of each file that this script makes."""
-    found = list(shown_crates())
+def documents(found):
+    """The text of each file that this script makes of these crates."""
     by_name = {crate.name: crate for crate in found}
     made = {PAGES / f"{crate.name}.md": "\n".join(page(crate, by_name)) for crate in found}
-    return {DOCUMENT: "\n".join([INTRODUCTION, *(line for crate in found for line in section(crate))]), **made}
+    return {INDEX: "\n".join([INTRODUCTION, *(line for crate in found for line in section(crate))]), **made}
 
 
 def write(made):
-    PAGES.mkdir(exist_ok=True)
+    PAGES.mkdir(parents=True, exist_ok=True)
     for path in set(PAGES.glob("*.md")) - set(made):
         path.unlink()
     for path, text in made.items():
         path.write_text(text, encoding="utf-8")
 
 
-def stale(made):
-    """The first file that is not what the sources give, or None."""
-    for path in sorted(set(PAGES.glob("*.md")) | set(made)):
-        if path not in made or not path.exists() or path.read_text(encoding="utf-8") != made[path]:
-            return path
-    return None
+def faults(found, made):
+    """What is wrong with the files that were made."""
+    for crate in found:
+        for module, rows in zip(crate.modules, crate.rows):
+            told = "".join(f" {row.item} " for row in rows)
+            for name in plain_functions(module, crate.exports):
+                if not re.search(rf"[ :]{name} ", told):
+                    yield f"the page of {crate.name} lacks {name}"
+    places = {path.name: set(anchors_of(HEADING.findall(text))) for path, text in made.items()}
+    for path, text in made.items():
+        for file, place in LINK.findall(text):
+            if file not in places or place and place not in places[file]:
+                yield f"{path.name}: a link to {file}#{place} leads nowhere"
+
+
+def plain_functions(module, exports):
+    """The functions of a module that users can name, by a plain look at its lines, to compare with `items_of`."""
+    owner = ""
+    for head, indent, name in PLAIN.findall(module.file.read_text(encoding="utf-8")):
+        if head:
+            owner = head.replace("->", "").partition("\nwhere")[0]
+            for _ in range(owner.count("<")):
+                owner = re.sub(r"<[^<>]*>", "", owner)
+            owner = owner.split()[-1]
+        elif module.path is not None or (owner if indent else name) in exports:
+            yield f"{owner}::{name}" if indent else name
 
 
 def main(arguments):
     if arguments not in ([], ["--check"]):
         sys.exit("usage: contracts.py [--check]")
     try:
-        made = documents()
+        found = list(shown_crates())
+        made = documents(found)
+        wrong = list(faults(found, made))
+        if wrong:
+            sys.exit("\n".join(f"contracts.py: {fault}" for fault in wrong))
         if not arguments:
             write(made)
-        elif stale(made):
-            sys.exit(f"contracts.py: {stale(made).relative_to(ROOT)} is stale: 'make contracts' makes it anew")
+            print(f"{INDEX.relative_to(ROOT)} leads to the contracts of {len(found)} crates")
         else:
-            print(f"ok contracts: docs/CONTRACTS.md and the pages of {len(made) - 1} crates are what the sources give")
+            count = sum(len(crate.shown()) for crate in found)
+            print(f"ok contracts: the pages of {len(found)} crates can be made, with {count} public items")
     except OSError as error:
         sys.exit(f"contracts.py: {error}")
 

@@ -29,7 +29,7 @@ import sys
 import tempfile
 from pathlib import Path
 
-from repository import ROOT
+from repository import ROOT, lines_of_crates
 
 LOG = ROOT / "build" / "plants.log"
 RESULT = re.compile(r"must-fail (\w+/[\w.-]+\.edit): (refused|NOT REFUSED|NOT TRIED|BAD EDIT)")
@@ -39,9 +39,7 @@ SHOWN = re.compile(r"trying its must-fail edits|tried by an earlier run|: waitin
 
 def uses_of_crates():
     """The line of crates.txt of each crate, and the crates that it names."""
-    text = (ROOT / "crates.txt").read_text(encoding="utf-8")
-    lines = [line.partition("#")[0].strip() for line in text.splitlines()]
-    by_name = {line.partition(":")[0].strip(): line for line in lines if line}
+    by_name = lines_of_crates()
 
     def uses(line):
         return [name for name in line.partition(":")[2].split() if name in by_name]
