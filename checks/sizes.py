@@ -24,9 +24,9 @@ CHANGED = (0, 300, 40_000, MOST_PAGES - 1)
 # files, of 64 and of 256 KiB. Room for something of each of 65,536 pages takes 4 MiB where that has 64 bytes, their bytes
 # take 32, and the longest log 64: each is more than this.
 SMALL = 1_024
-# What the store in memory and the pool of an engine make room for as it begins, in KiB: the bytes of each page, and 56
-# more for its states and its place.
-MADE_AHEAD = 65_536 * (512 + 56) // 1_024
+# What the store in memory and the pool of an engine make room for as it begins, in KiB: the bytes of each page, and 128
+# more for its states, and for two entries of the map in which its frame is found.
+MADE_AHEAD = 65_536 * (512 + 128) // 1_024
 ENGINES = ("run", "open")
 # How many KiB a process may have in memory. It has some 2,000 with its libraries.
 IN_MEMORY = 8_192
