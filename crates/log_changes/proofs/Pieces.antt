@@ -1,7 +1,7 @@
 -- Redo of changes on a piece of a volume's pages, one after another.
 use Rattle.std.proofs.Common.{◌≡◌, ◌≢◌, ℕ, zero, suc, ◌+◌, ◌<◌, Bool, true, false, cond, eqb, List, [], ◌∷◌, length}
 use Rattle.std.proofs.Common.{drop}
-use Rattle.std.specs.Prelude.{◌&&◌, nat_lt}
+use Rattle.std.specs.Prelude.{◌&&◌, nat_le, nat_lt}
 use Rattle.std.proofs.Common.{get_or, set, map, take, refl, sym, ap, ◌∙◌, arith, inl, inr, eq-eqb}
 use Rattle.std.proofs.lemmas.Bool.{cases_eq, lt-leb, ne_eqb}
 use Rattle.std.proofs.lemmas.List.{get_or-map, get_or-set_other, get_or-set_same, get_or_default, length-map}
@@ -62,26 +62,31 @@ one_redone from first at pages c d numbers lt here =
           ∙ sym (get_or-map step pages k x x below' ∙ other_page from (get_or pages k x) c apart)
     ])
 
-made : (from : ℕ) (page : Page) (c : Placed) → is_redone from page.lsn c ≡ true → c.page ≡ page.number
-    → put page c.lsn c.slot c.change ≡ redone_by from page c
-made from page c test here =
-    ap (λ (b : Bool). cond b (put page c.lsn c.slot c.change) page) (sym (eq-eqb c.page page.number here))
-    ∙ ap (λ (b : Bool). cond b (with_placed page c) page) (sym test)
+-- a change at or above the redo point is redone on its page by the page's LSN
+redone : (from : ℕ) (page : Page) (c : Placed) → nat_le from c.lsn ≡ true → c.page ≡ page.number
+    → cond (nat_lt page.lsn c.lsn) (put page c.lsn c.slot c.change) page ≡ redone_by from page c
+redone from page c low here =
+    ap (λ (b : Bool). cond (nat_lt page.lsn c.lsn) (cond b (put page c.lsn c.slot c.change) page) page)
+    (sym (eq-eqb c.page page.number here))
+    ∙ ap (λ (b : Bool). cond (b && nat_lt page.lsn c.lsn) (with_placed page c) page) (sym low)
 
-pub set_made : (from first at : ℕ) (pages : List Page) (c : Placed) (d : Page) → AreNumberedFrom first pages
-    → at < length pages → first + at ≡ c.page → (new : Page) → is_redone from (get_or pages at d).lsn c ≡ true
-    → new ≡ put (get_or pages at d) c.lsn c.slot c.change
+pub set_redone : (from first at : ℕ) (pages : List Page) (c : Placed) (d : Page) → AreNumberedFrom first pages
+    → at < length pages → first + at ≡ c.page → nat_le from c.lsn ≡ true → (new : Page)
+    → new ≡ cond (nat_lt (get_or pages at d).lsn c.lsn) (put (get_or pages at d) c.lsn c.slot c.change) (get_or pages at d)
     → set pages at new ≡ map (λ page. redone_by from page c) pages
-set_made from first at pages c d numbers lt here new test is =
-    ap (set pages at) (is ∙ made from (get_or pages at d) c test (sym (numbers at d lt ∙ here)))
+set_redone from first at pages c d numbers lt here low new is =
+    ap (set pages at) (is ∙ redone from (get_or pages at d) c low (sym (numbers at d lt ∙ here)))
     ∙ one_redone from first at pages c d numbers lt here
 
+-- one below the redo point is left out
+below_redo : (from : ℕ) (page : Page) (c : Placed) → nat_le from c.lsn ≡ false → redone_by from page c ≡ page
+below_redo from page c below = ap (λ (b : Bool). cond (b && nat_lt page.lsn c.lsn) (with_placed page c) page) below
+
 pub set_left : (from first at : ℕ) (pages : List Page) (c : Placed) (d : Page) → AreNumberedFrom first pages
-    → at < length pages → first + at ≡ c.page → is_redone from (get_or pages at d).lsn c ≡ false
+    → at < length pages → first + at ≡ c.page → nat_le from c.lsn ≡ false
     → set pages at (get_or pages at d) ≡ map (λ page. redone_by from page c) pages
-set_left from first at pages c d numbers lt here test =
-    let page = get_or pages at d in
-    ap (λ (b : Bool). set pages at (cond b (with_placed page c) page)) (sym test)
+set_left from first at pages c d numbers lt here below =
+    ap (set pages at) (sym (below_redo from (get_or pages at d) c below))
     ∙ one_redone from first at pages c d numbers lt here
 
 -- ---- one change after another
@@ -117,10 +122,6 @@ numbered_more from first pages cs numbers = λ k d lt.
 
 -- ---- the changes below the redo point
 
-below_redo : (from : ℕ) (page : Page) (c : Placed) → c.lsn < from → redone_by from page c ≡ page
-below_redo from page c below =
-    ap (λ (b : Bool). cond (b && nat_lt page.lsn c.lsn) (with_placed page c) page) (lt-leb from c.lsn below)
-
 pub redone_without : (from k : ℕ) (page : Page) (cs : List Placed)
     → ((i : ℕ) (d : Placed) → i < k → i < length cs → (get_or cs i d).lsn < from)
     → redone_each (drop k cs) from page ≡ redone_each cs from page
@@ -128,7 +129,8 @@ redone_without from zero page cs below = refl
 redone_without from (suc k) page [] below = refl
 redone_without from (suc k) page (c ∷ cs) below =
     redone_without from k page cs (λ i d lt within. below (suc i) d (omega (arith, lt)) (omega (arith, within)))
-    ∙ ap (redone_each cs from) (sym (below_redo from page c (below 0 c (omega arith) (omega arith))))
+    ∙ ap (redone_each cs from) (sym (below_redo from page c
+    (lt-leb from c.lsn (below 0 c (omega arith) (omega arith)))))
 
 pub same_redone : (from : ℕ) (one other : List Placed) (pages : List Page)
     → ((page : Page) → redone_each one from page ≡ redone_each other from page)

@@ -1,6 +1,6 @@
 //! A change as redo needs it.
 
-ghost use Rattle.std.specs.Prelude.{ℕ, ◌≡◌, ◌<◌};
+ghost use Rattle.std.specs.Prelude.{ℕ, ◌≡◌, ◌<◌, if◌then◌else◌, nat_lt};
 ghost use Rattle.log_records.specs.declared.limits.TheConstants.{MAX_RECORDS};
 ghost use Rattle.log_records.specs.Log.{lsn_of};
 ghost use Rattle.log_records.specs.Record.{IsPageChange};
@@ -8,6 +8,7 @@ ghost use Rattle.log_changes.specs.Placed.{number_of, placed_at};
 ghost use Rattle.page_core.specs.Page.{put};
 
 use log_records::PageChange;
+use log_store::redo_change;
 use page_core::{Change, ChangeKind, LSN_STEP, Lsn, Page, PageNo, SlotNo};
 use std::marker::Model;
 
@@ -90,11 +91,28 @@ impl PlacedChange {
         PageNo(self.page as u32)
     }
 
+    /// The slot that it changes.
+    fn slot(&self) -> SlotNo
+        ensures { result ≡ self.now.slot }
+    {
+        SlotNo(self.slot as u16)
+    }
+
     /// Makes the change on a page, whatever its number and its LSN.
     pub fn apply_to(&self, page: &mut Page)
         ensures { page.new ≡ put page.old self.now.lsn self.now.slot self.now.change }
     {
-        page.apply(self.lsn(), SlotNo(self.slot as u16), &self.change());
+        page.apply(self.lsn(), self.slot(), &self.change());
+    }
+
+    /// Redoes the change on a page, whatever its number, if the change is above `had`, the LSN that
+    /// the page had when its redo began: so a page gets the changes that it lacks.
+    #[inline(always)]
+    pub(crate) fn redo_above(&self, had: Lsn, page: &mut Page)
+        ensures { page.new ≡ if nat_lt had self.now.lsn
+            then put page.old self.now.lsn self.now.slot self.now.change else page.old }
+    {
+        redo_change(page, had, self.lsn(), self.slot(), &self.change());
     }
 
     /// The change.

@@ -6,7 +6,7 @@ ghost use Rattle.page_core.specs.declared.page.Page.{Page};
 ghost use Rattle.log_records.specs.Coverage.{resume};
 ghost use Rattle.log_records.specs.Image.{AreNumbered};
 ghost use Rattle.log_records.specs.Log.{IsLog, Log};
-ghost use Rattle.log_changes.specs.Placed.{AreNumberedFrom, is_redone, placed_in, redone_by};
+ghost use Rattle.log_changes.specs.Placed.{AreNumberedFrom, placed_in, redone_by};
 ghost use Rattle.log_changes.specs.Placed.{redone_each};
 
 use crate::placed_change::PlacedChange;
@@ -69,28 +69,22 @@ fn redo_piece(pages: &mut [Page], first: usize, changes: &[PlacedChange], from: 
     ensures { pages.new ≡ map (redone_each changes.now from) pages.old }
 {
     for change in changes {
-        redo_change(pages, first, change, from);
+        redo_in_piece(pages, first, change, from);
     }
 }
 
-/// Redoes a change on its page, if the piece has that.
-fn redo_change(pages: &mut [Page], first: usize, change: &PlacedChange, from: Lsn)
+/// Redoes a change on its page, if the piece has that, and the change is at or above the redo point
+/// and above the LSN that the page has by now. That is as good as the LSN before redo, since the
+/// LSNs of a log's changes rise.
+fn redo_in_piece(pages: &mut [Page], first: usize, change: &PlacedChange, from: Lsn)
     requires numbered { AreNumberedFrom first pages.old }
     ensures { pages.new ≡ map (λ page. redone_by from page change.now) pages.old }
 {
     let number = change.page().0 as usize;
     if first <= number && number - first < pages.len() {
         let page = &mut pages[number - first];
-        if is_redone(from, page.lsn, change) {
-            change.apply_to(page);
+        if from.0 <= change.lsn().0 {
+            change.redo_above(page.lsn, page);
         }
     }
-}
-
-/// Whether redo from a redo point makes a change on its page, which has this LSN by now. That is as
-/// good as the LSN before redo, since the LSNs of a log's changes rise.
-fn is_redone(from: Lsn, lsn: Lsn, change: &PlacedChange) -> bool
-    ensures { result ≡ is_redone from lsn change.now }
-{
-    from <= change.lsn() && lsn < change.lsn()
 }

@@ -47,11 +47,11 @@ taken : (page : Page) (r : Record) (b : Bool) → image_from page (cond b (r ∷
 taken page r true = refl
 taken page r false = refl
 
-pub above_more : (page now next : Page) (lsn : ℕ) (xs ys : List Record) (r : Record) (b : Bool) → ys ≡ xs ++ r ∷ []
-    → now ≡ image_from page (filter (is_above lsn) xs) → b ≡ is_above lsn r → next ≡ cond b (with_record now r) now
+pub above_more : (page now next : Page) (lsn : ℕ) (xs ys : List Record) (r : Record) → ys ≡ xs ++ r ∷ []
+    → now ≡ image_from page (filter (is_above lsn) xs) → next ≡ cond (is_above lsn r) (with_record now r) now
     → next ≡ image_from page (filter (is_above lsn) ys)
-above_more page now next lsn xs ys r b more before test step =
-    step ∙ ap (λ (t : Bool). cond t (with_record now r) now) test
+above_more page now next lsn xs ys r more before step =
+    step
     ∙ sym (ap (λ (zs : List Record). image_from page (filter (is_above lsn) zs)) more
     ∙ ap (image_from page) (filter-append (is_above lsn) xs (r ∷ []))
     ∙ image_from-append page (filter (is_above lsn) xs) (filter (is_above lsn) (r ∷ []))

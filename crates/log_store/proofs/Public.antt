@@ -8,6 +8,6 @@ pub use Rattle.log_store.proofs.Inputs.{at_some, refuses_more}
 -- The bytes of master records.
 pub use Rattle.log_store.proofs.Masters.{length-master_bytes, same_master}
 -- The redo of records by their numbers, one after another.
-pub use Rattle.log_store.proofs.Numbered.{above_more, all_more, none_more, some_more}
+pub use Rattle.log_store.proofs.Numbered.{all_more, none_more, some_more}
 -- The bytes of a log have one first fault at most.
 pub use Rattle.log_store.proofs.OneFault.{one_first_fault}

@@ -1,12 +1,12 @@
 //! What a log keeps of one page: the records that change it, and the page as it was rebuilt last.
 
 ghost use Rattle.std.specs.Prelude.{◌≡◌, ◌++◌, [], ◌∷◌, None, Some, OnErr, OnOk};
-ghost use Rattle.std.specs.List.{filter};
 ghost use Rattle.log_records.specs.Image.{image_from};
-ghost use Rattle.log_store.specs.PageHistory.{is_above, records_at, rolled};
+ghost use Rattle.log_store.specs.PageHistory.{records_at, rolled};
 
+use crate::redo::redo_numbered;
 use log_records::Record;
-use page_core::{Lsn, Page};
+use page_core::Page;
 use std::alloc::{AllocError, Global};
 use std::marker::Model;
 
@@ -71,7 +71,7 @@ impl PageHistory {
                 *page = rebuilt.copy();
                 redo_all(page, records, &self.later);
             }
-            None => redo_above(page, records, &self.later),
+            None => redo_numbered(page, records, &self.later),
         }
         self.keep(alloc, page)
     }
@@ -100,26 +100,4 @@ fn redo_all(page: &mut Page, records: &[Record], numbers: &[u32])
             next.redo_on(page);
         }
     }
-}
-
-/// Redoes on a page the records of these numbers that are above its LSN, in their order.
-fn redo_above(page: &mut Page, records: &[Record], numbers: &[u32])
-    ensures { page.new ≡ image_from page.old
-        (filter (is_above page.old.lsn) (records_at records.now numbers.now)) }
-{
-    let lsn = page.lsn;
-    for number in numbers {
-        if let Some(next) = records.get(*number as usize) {
-            if is_above(lsn, next) {
-                next.redo_on(page);
-            }
-        }
-    }
-}
-
-/// The record is above an LSN.
-fn is_above(lsn: Lsn, next: &Record) -> bool
-    ensures { result ≡ is_above lsn next.now }
-{
-    lsn < next.lsn()
 }

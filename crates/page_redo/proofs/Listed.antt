@@ -1,7 +1,7 @@
 -- Redo of a page by the list of its records.
-use Rattle.std.proofs.Common.{◌≡◌, ℕ, ◌+◌, ◌<◌, Bool, true, false, cond, eqb, List, [], ◌∷◌}
-use Rattle.std.proofs.Common.{length, get_or, take, refl, sym, ap, ◌∙◌}
-use Rattle.std.specs.Prelude.{Option, Some, None, ◌&&◌, nat_le, nat_lt, slice_get}
+use Rattle.std.proofs.Common.{◌≡◌, ℕ, Bool, true, false, cond, eqb, List, [], ◌∷◌}
+use Rattle.std.proofs.Common.{refl, sym, ap, ◌∙◌}
+use Rattle.std.specs.Prelude.{Option, Some, None, ◌&&◌, nat_le, nat_lt}
 use Rattle.std.specs.List.{filter}
 use Rattle.std.specs.Option.{option_map_or}
 use Rattle.page_core.specs.declared.page.Page.{Page}
@@ -13,10 +13,8 @@ use Rattle.log_records.specs.Image.{image_from, with_change, with_record}
 use Rattle.log_records.specs.Record.{change_of, own_lsn}
 use Rattle.log_records.proofs.Public.{number-with_record}
 use Rattle.page_redo.specs.PageRecords.{is_on, numbers_on}
-use Rattle.log_store.specs.PageHistory.{records_at}
+use Rattle.log_store.specs.PageHistory.{is_above, records_at}
 use Rattle.page_redo.specs.Redo.{redone}
-use Rattle.log_store.specs.PageHistory.{is_above}
-use Rattle.log_store.proofs.Public.{above_more, none_more, some_more}
 use Rattle.page_redo.proofs.Counted.{records_of_numbers}
 
 -- ---- a record that does not change the page
@@ -70,22 +68,3 @@ pub redone_list : (rs : List Record) (from p : ℕ) (page : Page) → page.numbe
     → redone page (records_at rs (numbers_on rs from p)) ≡ resume page rs from
 redone_list rs from p page number =
     ap (redone page) (records_of_numbers rs from p) ∙ of_the_page rs from page.lsn p page number
-
--- ---- the records of these numbers, one after another
-
-pub list_step : (page : Page) (lsn : ℕ) (rs : List Record) (numbers : List ℕ) (i n : ℕ) (r : Record) (b : Bool)
-    (now next : Page) → i < length numbers → n ≡ get_or numbers i 0 → slice_get rs n ≡ Some r
-    → now ≡ image_from page (filter (is_above lsn) (records_at rs (take i numbers)))
-    → b ≡ is_above lsn r → next ≡ cond b (with_record now r) now
-    → next ≡ image_from page (filter (is_above lsn) (records_at rs (take (i + 1) numbers)))
-list_step page lsn rs numbers i n r b now next lt is at before test step =
-    above_more page now next lsn (records_at rs (take i numbers)) (records_at rs (take (i + 1) numbers)) r b
-    (some_more rs numbers i n r lt is at) before test step
-
-pub list_skip : (page : Page) (lsn : ℕ) (rs : List Record) (numbers : List ℕ) (i n : ℕ) (now : Page)
-    → i < length numbers → n ≡ get_or numbers i 0 → slice_get rs n ≡ None
-    → now ≡ image_from page (filter (is_above lsn) (records_at rs (take i numbers)))
-    → now ≡ image_from page (filter (is_above lsn) (records_at rs (take (i + 1) numbers)))
-list_skip page lsn rs numbers i n now lt is at before =
-    before ∙ sym (ap (λ (xs : List Record). image_from page (filter (is_above lsn) xs))
-    (none_more rs numbers i n lt is at))

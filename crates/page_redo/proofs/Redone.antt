@@ -34,12 +34,10 @@ redo-more page lsn rs i d lt =
     last false page r = refl
 
 pub redo-step : (page : Page) (lsn : ℕ) (rs : List Record) (i : ℕ) (r : Record) → i < length rs → r ≡ get_or rs i r
-    → (now next : Page) (b : Bool)
-    → now ≡ image_from page (filter (is_above lsn) (take i rs)) → b ≡ is_above lsn r
-    → next ≡ cond b (with_record now r) now
+    → (now next : Page) → now ≡ image_from page (filter (is_above lsn) (take i rs))
+    → next ≡ cond (is_above lsn r) (with_record now r) now
     → next ≡ image_from page (filter (is_above lsn) (take (i + 1) rs))
-redo-step page lsn rs i r lt e now next b before test step =
+redo-step page lsn rs i r lt e now next before step =
     let so_far = image_from page (filter (is_above lsn) (take i rs)) in
-    step ∙ ap (λ (q : Page). cond b (with_record q r) q) before
-    ∙ ap (λ (t : Bool). cond t (with_record so_far r) so_far) test
+    step ∙ ap (λ (q : Page). cond (is_above lsn r) (with_record q r) q) before
     ∙ ap (λ (s : Record). cond (is_above lsn s) (with_record so_far s) so_far) e ∙ sym (redo-more page lsn rs i r lt)

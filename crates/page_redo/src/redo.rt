@@ -2,10 +2,10 @@
 
 ghost use Rattle.std.specs.Prelude.{◌≡◌};
 ghost use Rattle.page_redo.specs.Redo.{redone};
-ghost use Rattle.log_store.specs.PageHistory.{is_above};
 
 use log_records::Record;
-use page_core::{Lsn, Page};
+use log_store::redo_record;
+use page_core::Page;
 
 /// Redoes on a page the records above its LSN, in their order, and leaves out all others: a page
 /// that was stored with some of the changes gets just those that it lacks. The LSN is the one at
@@ -14,17 +14,8 @@ use page_core::{Lsn, Page};
 pub fn redo_page(page: &mut Page, records: &[Record])
     ensures { page.new ≡ redone page.old records.now }
 {
-    let lsn = page.lsn;
+    let had = page.lsn;
     for record in records {
-        if is_above(lsn, record) {
-            record.redo_on(page);
-        }
+        redo_record(page, had, record);
     }
-}
-
-/// The record is above an LSN.
-pub(crate) fn is_above(lsn: Lsn, record: &Record) -> bool
-    ensures { result ≡ is_above lsn «record».now }
-{
-    lsn < record.lsn()
 }

@@ -10,10 +10,9 @@ ghost use Rattle.log_store.specs.PageHistory.{records_at};
 ghost use Rattle.page_redo.specs.Redo.{redone};
 
 use crate::page_records::{PageRecords, by_page};
-use crate::redo::is_above;
 use crate::volume::redo_pages_alone;
 use log_records::Record;
-use log_store::LogImage;
+use log_store::{LogImage, redo_numbered};
 use page_core::{Lsn, Page};
 use rayon::prelude::*;
 use std::alloc::Global;
@@ -76,18 +75,4 @@ pub fn redo_by_page(
             redo_numbered(page, records, lists.of(page.number));
         },
     );
-}
-
-/// Redoes on a page the records of these numbers that are above its LSN, in their order.
-fn redo_numbered(page: &mut Page, records: &[Record], numbers: &[u32])
-    ensures { page.new ≡ redone page.old (records_at records.now numbers.now) }
-{
-    let lsn = page.lsn;
-    for number in numbers {
-        if let Some(record) = records.get(*number as usize) {
-            if is_above(lsn, record) {
-                record.redo_on(page);
-            }
-        }
-    }
 }

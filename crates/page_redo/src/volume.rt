@@ -6,9 +6,8 @@ ghost use Rattle.log_records.specs.Image.{AreNumbered};
 ghost use Rattle.log_records.specs.Log.{AreWithin, IsWithin, page_count};
 ghost use Rattle.page_redo.specs.Redo.{redone_all, redone_by};
 
-use crate::redo::is_above;
 use log_records::Record;
-use log_store::LogImage;
+use log_store::{LogImage, redo_record};
 use page_core::{Lsn, Page};
 
 /// Redoes the records of a log from a redo point on, over the pages of its volume: on each page the
@@ -45,8 +44,6 @@ fn redo_if_above(pages: &mut [Page], next: &Record)
 {
     if let Some(change) = next.change() {
         let page = &mut pages[change.page.0 as usize];
-        if is_above(page.lsn, next) {
-            next.redo_on(page);
-        }
+        redo_record(page, page.lsn, next);
     }
 }

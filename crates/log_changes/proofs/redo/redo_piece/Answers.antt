@@ -6,8 +6,8 @@ use Rattle.log_changes.proofs.redo.redo_piece.Goals as goal
 pub loop-change-init : goal.loop-change-init
 loop-change-init c = none_yet c.args.from c.args.pages.now
 
-pub redo_change-requires : goal.redo_change-requires
-redo_change-requires c = record {
+pub redo_in_piece-requires : goal.redo_in_piece-requires
+redo_in_piece-requires c = record {
   numbered = subst (AreNumberedFrom c.args.first) (sym c.loop-change.invariant)
       (numbered_more c.args.from c.args.first c.args.pages.now
       (take c.loop-change.change-index c.args.changes.now) c.requires.numbered);
@@ -18,7 +18,7 @@ loop-change-preserved c =
     let changes = c.args.changes.now in
     let i = c.loop-change.change-index in
     let d = c.change-item.result in
-    c.redo_change.ensures
+    c.redo_in_piece.ensures
     ∙ ap (λ (x : Placed). map (λ page. redone_by c.args.from page x) c.loop-change.pages) c.change-item.is
     ∙ ap (map (λ page. redone_by c.args.from page (get_or changes i d))) c.loop-change.invariant
     ∙ each_more c.args.from c.args.pages.now changes i d c.loop-change-test.true

@@ -1,16 +1,14 @@
-use Rattle.std.proofs.Common.{◌≡◌, ◌∙◌, ◌<◌, ℕ, length, set, get_or, ap, sym, subst, cond, true, false, Bool}
+use Rattle.std.proofs.Common.{◌≡◌, ◌∙◌, ◌<◌, ℕ, length, set, get_or, ap, sym, subst}
 use Rattle.std.specs.Prelude.{Option, Some, IfSome}
 use Rattle.log_records.specs.declared.page_change.PageChange.{PageChange}
 use Rattle.log_records.specs.Record.{change_of}
-use Rattle.log_records.specs.Image.{with_record}
 use Rattle.page_redo.specs.Redo.{redone_by}
-use Rattle.log_store.specs.PageHistory.{is_above}
 use Rattle.log_records.proofs.Public.{change_within}
 use Rattle.page_redo.proofs.Volumes.{none_redone, one_redone}
 use Rattle.page_redo.proofs.volume.redo_if_above.Goals as goal
 
-pub returns-then-is_above : goal.returns-then-is_above
-returns-then-is_above c =
+pub returns-in-Some : goal.returns-in-Some
+returns-in-Some c =
     let pages = c.args.pages.now in
     let r = c.args.next.now in
     let change = c.in-Some.change in
@@ -20,27 +18,7 @@ returns-then-is_above c =
     let within : change.page < length pages =
     subst (λ (o : Option PageChange). IfSome o (λ x. x.page < length pages)) here
     (change_within (length pages) r c.requires.within) in
-    let old = get_or pages c.change-in-Some.inside.0.0.0 c.index-pages-change.result in
-    let test : true ≡ is_above old.lsn r = sym c.if-is_above.true ∙ c.is_above.ensures in
-    ap (set pages c.change-in-Some.inside.0.0.0) (c.redo_on.ensures
-    ∙ ap (λ (b : Bool). cond b (with_record old r) old) test)
-    ∙ ap (λ (n : ℕ). set pages n (redone_by (get_or pages n c.index-pages-change.result) r)) number
-    ∙ one_redone pages r change c.index-pages-change.result here within c.requires.numbered
-
-pub returns-else-is_above : goal.returns-else-is_above
-returns-else-is_above c =
-    let pages = c.args.pages.now in
-    let r = c.args.next.now in
-    let change = c.in-Some.change in
-    let here : change_of r ≡ Some change = sym c.in-Some.ensures in
-    let number : c.change-in-Some.inside.0.0.0 ≡ change.page =
-    ap (λ (x : PageChange). x.page) c.change-in-Some.view_is in
-    let within : change.page < length pages =
-    subst (λ (o : Option PageChange). IfSome o (λ x. x.page < length pages)) here
-    (change_within (length pages) r c.requires.within) in
-    let old = get_or pages c.change-in-Some.inside.0.0.0 c.index-pages-change.result in
-    let test : false ≡ is_above old.lsn r = sym c.if-is_above.false ∙ c.is_above.ensures in
-    ap (λ (b : Bool). set pages c.change-in-Some.inside.0.0.0 (cond b (with_record old r) old)) test
+    ap (set pages c.change-in-Some.inside.0.0.0) c.redo_record.ensures
     ∙ ap (λ (n : ℕ). set pages n (redone_by (get_or pages n c.index-pages-change.result) r)) number
     ∙ one_redone pages r change c.index-pages-change.result here within c.requires.numbered
 

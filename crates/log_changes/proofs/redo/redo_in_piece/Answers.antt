@@ -1,28 +1,31 @@
-use Rattle.std.proofs.Common.{◌≡◌, ◌∙◌, ◌+◌, ◌-◌, get_or, sym, arith}
-use Rattle.log_changes.proofs.Pieces.{none_redone, set_left, set_made}
-use Rattle.log_changes.proofs.redo.redo_change.Goals as goal
-use Rattle.log_changes.proofs.redo.redo_change.Goals.{else-first-number-via-else-first-number}
-use Rattle.log_changes.proofs.redo.redo_change.Goals.{else-first-number-via-then-first-number+else-number-first}
+use Rattle.std.proofs.Common.{◌≡◌, ◌∙◌, ◌+◌, ◌-◌, get_or, arith}
+use Rattle.std.proofs.lemmas.Bool.{le-leb, lt-leb}
+use Rattle.log_changes.proofs.Pieces.{none_redone, set_left, set_redone}
+use Rattle.log_changes.proofs.redo.redo_in_piece.Goals as goal
+use Rattle.log_changes.proofs.redo.redo_in_piece.Goals.{else-first-number-via-else-first-number}
+use Rattle.log_changes.proofs.redo.redo_in_piece.Goals.{else-first-number-via-then-first-number+else-number-first}
 
-pub returns-then-is_redone : goal.returns-then-is_redone
-returns-then-is_redone c =
+pub returns-then-from-lsn : goal.returns-then-from-lsn
+returns-then-from-lsn c =
     let first = c.args.first in
     let at = c.number.inside.0 - first in
     let number : c.number.inside.0 ≡ c.args.change.now.page = c.number.view_is ∙ c.page.ensures in
     let low = c.if-first-number.true in
     let here : first + at ≡ c.args.change.now.page = omega arith in
-    set_made c.args.from first at c.args.pages.now c.args.change.now c.index-pages-number.result c.requires.numbered
-    c.if-number-first.true here c.apply_to.new.page (sym c.is_redone.ensures ∙ c.if-is_redone.true) c.apply_to.ensures
+    let reached = le-leb c.args.from c.args.change.now.lsn (omega (arith, c.if-from-lsn.true, c.lsn.ensures)) in
+    set_redone c.args.from first at c.args.pages.now c.args.change.now c.index-pages-number.result c.requires.numbered
+    c.if-number-first.true here reached c.redo_above.new.page c.redo_above.ensures
 
-pub returns-else-is_redone : goal.returns-else-is_redone
-returns-else-is_redone c =
+pub returns-else-from-lsn : goal.returns-else-from-lsn
+returns-else-from-lsn c =
     let first = c.args.first in
     let at = c.number.inside.0 - first in
     let number : c.number.inside.0 ≡ c.args.change.now.page = c.number.view_is ∙ c.page.ensures in
     let low = c.if-first-number.true in
     let here : first + at ≡ c.args.change.now.page = omega arith in
+    let below = lt-leb c.args.from c.args.change.now.lsn (omega (arith, c.if-from-lsn.false, c.lsn.ensures)) in
     set_left c.args.from first at c.args.pages.now c.args.change.now c.index-pages-number.result c.requires.numbered
-    c.if-number-first.true here (sym c.is_redone.ensures ∙ c.if-is_redone.false)
+    c.if-number-first.true here below
 
 pub returns-else-first-number : goal.returns-else-first-number
 returns-else-first-number c =
