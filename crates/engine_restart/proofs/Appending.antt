@@ -11,7 +11,7 @@ use Rattle.log_store.specs.Device.{KeepsFirst}
 use Rattle.log_store.specs.Stores.{Forced, ForcesBetween, StoreCall, SyncCall}
 use Rattle.log_store.specs.WrittenLog.{HoldsLog, IsWritten, WrittenLog, first_records}
 use Rattle.loser_undo.specs.Recovery.{appended}
-use Rattle.loser_undo.specs.UndoRecords.{HasYielded, UndoView}
+use Rattle.loser_undo.specs.UndoSink.{HasComeTo}
 use Rattle.loser_undo.proofs.Public.{log_and_appended}
 use Rattle.page_core.specs.declared.format.Format.{Format}
 use Rattle.page_core.specs.declared.format.Format.TheVariants.{Second}
@@ -41,45 +41,18 @@ may_append log r valid =
       few = omega (arith, long, most);
     }
 
--- so far undo has yielded these records, which stand behind the log
-pub record AreAppended (image : Log) (undo : UndoView) (log : Log) : Type 0 where
-  pub behind : List Record
-  pub has : HasYielded image behind undo
-  pub log_is : log ≡ with_next image behind
+-- undo's next record behind a log that has grown by these
+module _ (image : Log) (behind : List Record) (r : Record) (log : Log) (grown : log ≡ with_next image behind) where
+  pub next_is : with_next log (r ∷ []) ≡ with_next image (behind ++ r ∷ [])
+  next_is =
+      ap (λ (l : Log). with_next l (r ∷ [])) grown
+      ∙ ap (λ (rs : List Record). record image { records = rs }) (append_assoc image.records behind (r ∷ []))
 
-module _ (image : Log) (undo new : UndoView) (log : Log) (r : Record) (are : AreAppended image undo log)
-    (more : HasYielded image (are.behind ++ r ∷ []) new) where
-  with_record_is : with_next log (r ∷ []) ≡ with_next image (are.behind ++ r ∷ [])
-  with_record_is =
-      ap (λ (l : Log). with_next l (r ∷ [])) are.log_is
-      ∙ ap (λ (rs : List Record). record image { records = rs }) (append_assoc image.records are.behind (r ∷ []))
+  pub next_may : HasComeTo image (behind ++ r ∷ []) → MayBeAppended log r
+  next_may come = may_append log r (subst IsLog (sym next_is) come.1.valid)
 
-  pub next_may : MayBeAppended log r
-  next_may = may_append log r (subst IsLog (sym with_record_is) more.valid)
-
-  pub next_appended : (after : Log) → after ≡ with_next log (r ∷ []) → AreAppended image new after
-  next_appended after is = record {
-    behind = are.behind ++ r ∷ [];
-    has = more;
-    log_is = is ∙ with_record_is;
-  }
-
-  -- the log would be longer, and still not too long
-  pub counted : (undo.count < new.count) × (new.count ≤ MAX_RECORDS)
-  counted =
-      let many = ap (length {A = Record}) (sym (append_assoc image.records are.behind (r ∷ [])))
-      ∙ length_push (image.records ++ are.behind) r in
-      let before = are.has.count in
-      let after = more.count in
-      let room = more.room in
-      let fits = more.fits in
-      (omega (arith, before, after, many), omega (arith, after, room, fits))
-
-pub all_appended : (image : Log) (behind : List Record) (log : Log) → log ≡ with_next image behind
-    → behind ≡ appended image → log ≡ undone_log image
-all_appended image behind log is all =
-    is ∙ ap (λ (rs : List Record). record image { records = rs })
-    (ap (λ (xs : List Record). image.records ++ xs) all ∙ log_and_appended image)
+pub all_appended : (image log : Log) → log ≡ with_next image (appended image) → log ≡ undone_log image
+all_appended image log is = is ∙ ap (λ (rs : List Record). record image { records = rs }) (log_and_appended image)
 
 -- a device has all of a log that is forced
 pub held : {D : Type 0} (bytes : D → List ℕ) (it : WrittenLog D) → IsWritten bytes it

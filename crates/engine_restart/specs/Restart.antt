@@ -1,12 +1,13 @@
 -- A log that is taken up where an engine was lost, and what is there then.
-use Rattle.std.specs.Prelude.{ℕ, ◌≡◌, ◌<◌, ◌≤◌, List, length}
+use Rattle.std.specs.Prelude.{ℕ, ◌≡◌, ◌<◌, ◌≤◌, Bool, false, List, length}
 use Rattle.page_core.specs.FaultName.{fault_line}
 use Rattle.page_core.specs.declared.fault_name.FaultName.TheVariants as name
 use Rattle.page_core.specs.declared.page.Page.{Page}
 use Rattle.log_records.specs.Image.{redo_all}
-use Rattle.log_records.specs.Log.{Log, lsn_of, page_count}
+use Rattle.log_records.specs.Log.{Log, lsn_of, page_count, with_next}
+use Rattle.log_records.specs.declared.record.Record.{Record}
 use Rattle.log_store.specs.Stores.{ForcesBetween, StoreCall, SyncCall}
-use Rattle.log_store.specs.WrittenLog.{HoldsLog}
+use Rattle.log_store.specs.WrittenLog.{HoldsLog, WrittenLog}
 use Rattle.loser_undo.specs.Undo.{after_undo}
 use Rattle.copy_vault.specs.Vault.{CopyState}
 use Rattle.engine_rules.specs.Resumed.{MayResume}
@@ -30,6 +31,14 @@ abbrev pub ForcesMore : {D : Type 0} → StoreCall D → SyncCall D → Log → 
 ForcesMore called synced log more old new =
     ForcesBetween called synced more.records (lsn_of (length log.records))
     (lsn_of (length more.records)) old new
+
+-- these records stand behind the log, unless memory for one was refused; and nothing was forced
+-- since the start
+pub record HasGrown {D : Type 0} (start : WrittenLog D) (log : Log) (behind : List Record)
+    (it : WrittenLog D) (is_refused : Bool) : Type 0 where
+  pub log_is : is_refused ≡ false → it.log ≡ with_next log behind
+  pub forced_end : it.forced_end ≡ start.forced_end
+  pub device : it.device ≡ start.device
 
 -- a log in which no transaction is open, the pages that it makes, and the copies that are at hand
 pub record RestartedView : Type 0 where

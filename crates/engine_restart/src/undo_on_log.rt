@@ -7,14 +7,15 @@ ghost use Rattle.log_records.specs.declared.limits.TheConstants.{MAX_RECORDS};
 ghost use Rattle.log_records.specs.Log.{IsLog, log_bytes, lsn_of};
 ghost use Rattle.log_store.specs.Device.{KeepsFirst};
 ghost use Rattle.loser_undo.specs.Losers.{AreLosersOf};
-ghost use Rattle.engine_restart.specs.Restart.{ForcesMore, HasLasting, IsStopped, undone_log};
+ghost use Rattle.engine_restart.specs.Restart.{ForcesMore, HasGrown, HasLasting, IsStopped};
+ghost use Rattle.engine_restart.specs.Restart.{undone_log};
 ghost use Rattle.engine_restart.specs.declared.fault.RestartFault.TheVariants.{LogFull};
 
 use crate::fault::RestartFault;
 use crate::losers::losers_of;
-use log_records::MAX_RECORDS;
+use log_records::{MAX_RECORDS, Record};
 use log_store::{Log, LogDevice, LogImage};
-use loser_undo::UndoRecords;
+use loser_undo::{UndoSink, undo_into};
 use std::alloc::Global;
 use txn_table::Losers;
 
@@ -55,39 +56,57 @@ pub fn take_back<D: LogDevice + Drop>(
     if log.records().len() as u64 + losers.owed() > MAX_RECORDS as u64 {
         return Err((RestartFault::LogFull, device));
     }
-    append_all(alloc, log, losers, device)
-}
-
-/// Appends the records of undo, for which there is room, and forces them.
-fn append_all<D: LogDevice + Drop>(
-    alloc: Global,
-    log: LogImage,
-    losers: Losers,
-    device: D,
-) -> Result<(LogImage, D), (RestartFault, D)>
-    requires losers { AreLosersOf log.records losers }
-    requires device { HasLasting D.bytes D.lasting log device }
-    requires room { length log.records + owed log.records ≤ MAX_RECORDS }
-    ensures undone { IfOk result (λ it. it.0 ≡ undone_log log) }
-    ensures device { IfOk result (λ it. HasLasting D.bytes D.lasting it.0 it.1) }
-    ensures alone { IfOk result (λ it. length log.records < length it.0.records
-        → D.bytes it.1 ≡ log_bytes it.0) }
-    ensures called { IfOk result (λ it. ForcesMore D.called D.synced log it.0 device it.1) }
-    ensures fault { IfErr result (λ e. IsStopped D.failures device e.0 e.1) }
-    ensures full { IfErr result (λ e. ¬ (e.0 ≡ LogFull)) }
-    ensures stands { IfErr result (λ e.
-        KeepsFirst (lsn_of (length log.records)) (D.bytes device) (D.bytes e.1)) }
-{
-    let mut undo = UndoRecords::new(losers, log.records().len());
-    let mut written = Log::resume(log, device);
-    while let Some(next) = undo.next_record() {
-        if written.make_room().is_err() {
-            return Err((RestartFault::OutOfMemory, written.into_parts().1));
-        }
-        written.append(next);
-    }
+    let mut written = match with_undo(log, losers, device) {
+        Ok(written) => written,
+        Err(device) => return Err((RestartFault::OutOfMemory, device)),
+    };
     match written.force() {
         Ok(()) => Ok(written.into_parts()),
         Err(_) => Err((RestartFault::LogFault, written.into_parts().1)),
+    }
+}
+
+/// The log with the records of undo in memory. An `Err` comes where memory for these is refused.
+fn with_undo<D: LogDevice + Drop>(log: LogImage, losers: Losers, device: D) -> Result<Log<D>, D>
+    requires losers { AreLosersOf log.records losers }
+    requires device { HasLasting D.bytes D.lasting log device }
+    requires room { length log.records + owed log.records ≤ MAX_RECORDS }
+    ensures undone { IfOk result (λ it. it.log ≡ undone_log log) }
+    ensures forced_end { IfOk result (λ it. it.forced_end ≡ lsn_of (length log.records)) }
+    ensures device { IfOk result (λ it. it.device ≡ device) }
+    ensures refused { IfErr result (λ it. it ≡ device) }
+    ensures valid { IsLog log }
+{
+    let count = log.records().len();
+    let mut sink = GrowingLog {
+        written: Log::resume(log, device),
+        is_refused: false,
+    };
+    undo_into(losers, count, &mut sink);
+    if sink.is_refused {
+        return Err(sink.written.into_parts().1);
+    }
+    Ok(sink.written)
+}
+
+/// A log on its device, and whether memory for a record was refused. From then on it takes none.
+#[derive(Drop)]
+struct GrowingLog<D: LogDevice> {
+    written: Log<D>,
+    is_refused: bool,
+}
+
+/// The records come behind those of the log, in memory.
+impl<D: LogDevice> UndoSink for GrowingLog<D> {
+    ghost took = { λ start log behind it. HasGrown start.written log behind it.written it.is_refused };
+
+    fn take(&mut self, next: &Record) {
+        if self.is_refused {
+            return;
+        }
+        match self.written.make_room() {
+            Ok(()) => self.written.append(*next),
+            Err(_) => self.is_refused = true,
+        }
     }
 }

@@ -6,8 +6,7 @@ ghost use Rattle.log_records.specs.Log.{Log};
 ghost use Rattle.loser_undo.specs.Recovery.{appended};
 ghost use Rattle.log_changes.specs.Undo.{IsToUndo};
 
-use log_records::redo_on_its_page;
-use loser_undo::UndoRecords;
+use loser_undo::undo_into;
 use page_core::Page;
 use txn_table::Losers;
 
@@ -20,9 +19,6 @@ pub fn undo_open(losers: Losers, count: usize, mut pages: Vec<Page>) -> Vec<Page
     ensures { (log : Log) → IsToUndo log losers count pages.items
         → result.items ≡ map (λ page. image_from page (appended log)) pages.items }
 {
-    let mut undo = UndoRecords::new(losers, count);
-    while let Some(next) = undo.next_record() {
-        redo_on_its_page(&mut pages, &next);
-    }
+    undo_into(losers, count, &mut pages);
     pages
 }

@@ -1,19 +1,21 @@
 -- The pages of a log after undo.
-use Rattle.std.proofs.Common.{◌≡◌, ℕ, ◌<◌, ◌++◌, ◌∷◌, [], Bool, true, false, cond, List, get_or, length, map, refl, sym, ap, ◌∙◌, arith}
+use Rattle.std.proofs.Common.{◌≡◌, ℕ, ◌+◌, ◌<◌, ◌≤◌, ◌++◌, ◌∷◌, [], Bool, true, false, cond, List, get_or, length, map, refl, sym, ap, ◌∙◌, arith}
 use Rattle.std.specs.List.{fold}
 use Rattle.std.specs.Prelude.{slice_index}
-use Rattle.std.proofs.lemmas.List.{take-append-drop}
+use Rattle.std.proofs.lemmas.List.{length-map, take-append-drop}
 use Rattle.page_core.specs.declared.page.Page.{Page}
 use Rattle.log_records.specs.declared.record.Record.{Record}
 use Rattle.log_store.specs.declared.master.Master.{Master}
 use Rattle.log_records.specs.Image.{image_from, redo_all}
 use Rattle.log_records.specs.Log.{IsLog, Log}
-use Rattle.log_records.proofs.Public.{length-redo_all, redo_all-append}
+use Rattle.log_records.proofs.Public.{length-redo_all, numbered-images, redo_all-append}
+use Rattle.log_records.specs.declared.limits.TheConstants.{MAX_RECORDS}
 use Rattle.log_rules.specs.Linked.{IsLinked}
 use Rattle.log_rules.proofs.Public.{number_of_volume}
-use Rattle.loser_undo.specs.Recovery.{HasCommitted, IsWhole, Recovery, appended, undone}
+use Rattle.log_rules.specs.Transactions.{owed}
+use Rattle.loser_undo.specs.Recovery.{HasCommitted, IsRecovery, IsUndone, IsWhole, Recovery, appended, undone}
 use Rattle.loser_undo.specs.Undo.{LostChange, after_undo, comp_of, end_of, is_undone, lost_changes, spent, taken_back, with_comp, with_end}
-use Rattle.loser_undo.proofs.Valid.{log_comes_first, undone_number}
+use Rattle.loser_undo.proofs.Valid.{log_comes_first, undo_closes, undo_is_linked, undone_fits, undone_number}
 use Rattle.log_records.proofs.Public.{count_behind-push}
 use Rattle.log_records.specs.PageCount.{count_behind}
 use Rattle.log_records.specs.Log.{page_count}
@@ -81,4 +83,17 @@ same_parts r count rs master pages counts records masters all = λ i. record {
   log = record { pages = counts i; records = records i };
   master = masters i;
   pages = all i;
+}
+
+-- no transaction is open any more
+pub undone_closed : (r : Recovery) → IsRecovery r
+    → length r.log.records + owed r.log.records ≤ MAX_RECORDS → IsUndone (undone r)
+undone_closed r is room = record {
+  is = record {
+    valid = undone_fits r.log is.valid is.linked room;
+    linked = undo_is_linked r.log is.valid is.linked;
+    count = length-map r.pages (λ page. image_from page (appended r.log)) ∙ is.count ∙ undone_count r.log;
+    numbered = numbered-images r.pages (appended r.log) is.numbered;
+  };
+  closed = undo_closes r.log is.valid is.linked;
 }

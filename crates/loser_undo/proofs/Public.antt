@@ -5,9 +5,8 @@ pub use Rattle.loser_undo.proofs.Appends.{owed_few}
 -- The pages of a log after undo.
 pub use Rattle.loser_undo.proofs.Pages.{log_and_appended, undone_committed, undone_count}
 pub use Rattle.loser_undo.proofs.Pages.{undone_whole}
--- Undo of a log, whose records so far are redone on the pages.
-pub use Rattle.loser_undo.proofs.Undoing.{IsOnWay, next_counted, next_on_way, next_within}
-pub use Rattle.loser_undo.proofs.Undoing.{nothing_yet, still_numbered, way_begins, way_ends}
+-- Undo of a log begins with the pages as they are.
+pub use Rattle.loser_undo.proofs.Undoing.{nothing_redone}
 -- The log after undo: its changes are valid, it fits where records plus owed ones do, and it begins with the log.
 pub use Rattle.loser_undo.proofs.Valid.{undo_closes, undo_is_linked, undone_fits, undone_number}
 -- Redo from a redo point on leaves a log with its master record and its pages what it is.

@@ -5,3 +5,4 @@ pub mod Recovery
 pub mod Tail
 pub mod Undo
 pub mod UndoRecords
+pub mod UndoSink

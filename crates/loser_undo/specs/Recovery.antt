@@ -1,5 +1,5 @@
 -- A log with its master record and its pages, before undo and after it.
-use Rattle.std.specs.Prelude.{ℕ, ◌≡◌, ◌+◌, ◌<◌, ◌≤◌, List, [], drop, length, map, slice_index}
+use Rattle.std.specs.Prelude.{ℕ, ◌≡◌, ◌<◌, List, [], drop, length, map, slice_index}
 use Rattle.std.specs.Prelude.{slice_index_or}
 use Rattle.page_core.specs.declared.page.Page.{Page}
 use Rattle.page_core.specs.declared.page.TheConstants.{SLOTS}
@@ -10,7 +10,7 @@ use Rattle.log_records.specs.Log.{IsLog, Log, page_count}
 use Rattle.log_rules.specs.Committed.{committed}
 use Rattle.log_rules.specs.Linked.{IsLinked}
 use Rattle.log_rules.specs.Table.{TxnEntry}
-use Rattle.log_rules.specs.Transactions.{open_in, owed}
+use Rattle.log_rules.specs.Transactions.{open_in}
 use Rattle.log_store.specs.declared.master.Master.{Master}
 use Rattle.loser_undo.specs.Losers.{AreLosersOf}
 use Rattle.loser_undo.specs.Undo.{after_undo}
@@ -43,14 +43,6 @@ pub record IsRecovery (r : Recovery) : Type 0 where
 pub record IsRedone (r : Recovery) (losers : List TxnEntry) : Type 0 where
   pub is : IsRecovery r
   pub made : AreLosersOf r.log.records losers
-
--- its records, the losers and the pages, with room for the records that undo may append
-pub record IsToUndo (r : Recovery) (records : List Record) (capacity : ℕ) (losers : List TxnEntry)
-    (pages : List Page) : Type 0 where
-  pub log_is : records ≡ r.log.records
-  pub made : AreLosersOf records losers
-  pub fits : length records + owed records ≤ capacity
-  pub pages_are : pages ≡ r.pages
 
 -- no transaction is open
 pub record IsUndone (r : Recovery) : Type 0 where

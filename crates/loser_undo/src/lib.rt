@@ -8,6 +8,7 @@ mod tail;
 mod trace;
 mod undo_laws;
 mod undo_records;
+mod undo_sink;
 mod undone;
 
 pub use analysis::losers;
@@ -20,4 +21,5 @@ pub use undo_laws::{
     undo_leaves_what_is_committed, undo_only_appends, undo_takes_back_what_is_pending,
 };
 pub use undo_records::UndoRecords;
+pub use undo_sink::{UndoSink, undo_into};
 pub use undone::{Undone, undo_all};

@@ -1,24 +1,18 @@
 //! Undoes a whole log.
 
-ghost use Rattle.std.specs.Prelude.{ℕ, ◌≡◌, ◌↔◌, ◌+◌, ◌<◌, ◌≤◌, drop, length, map, IfOk, IfErr};
-ghost use Rattle.std.specs.Prelude.{IsErrAnd, vec_capacity};
+ghost use Rattle.std.specs.Prelude.{◌≡◌, ◌↔◌, ◌+◌, ◌<◌, ◌≤◌, length, IfOk, IfErr, IsErrAnd};
 ghost use Rattle.log_records.specs.declared.limits.TheConstants.{MAX_RECORDS};
-ghost use Rattle.log_records.specs.Image.{AreNumbered, image_from};
-ghost use Rattle.log_records.specs.Log.{IsLog, page_count};
 ghost use Rattle.log_rules.specs.Transactions.{owed};
 ghost use Rattle.loser_undo.specs.declared.fault.UndoFault.TheVariants.{LogFull};
-ghost use Rattle.loser_undo.specs.Losers.{AreLosersOf};
-ghost use Rattle.loser_undo.specs.Recovery.{HasCommitted, IsRecovery, IsToUndo, IsWhole, undone};
-ghost use Rattle.loser_undo.specs.Undo.{after_undo};
+ghost use Rattle.loser_undo.specs.Recovery.{HasCommitted, IsWhole, undone};
 
 use crate::fault::UndoFault;
 use crate::redone::Redone;
-use crate::undo_records::UndoRecords;
-use log_records::{Record, redo_on_its_page};
+use crate::undo_sink::undo_into;
+use log_records::Record;
 use log_store::{LogImage, Master};
 use page_core::Page;
 use std::marker::Model;
-use txn_table::Losers;
 
 /// A log, its master record and its pages after undo: no transaction is open.
 #[derive(Drop)]
@@ -102,21 +96,6 @@ pub fn undo_all(redone: Redone) -> Result<Undone, (Redone, UndoFault)>
     if redone.is_full() {
         return Err((redone, UndoFault::LogFull));
     }
-    let first_count = redone.log.pages();
-    let master = redone.master;
-    match begin(redone) {
-        Ok((records, losers, pages)) => Ok(finish(first_count, records, master, losers, pages)),
-        Err(redone) => Err((redone, UndoFault::OutOfMemory)),
-    }
-}
-
-/// Makes room for all records that undo may append. An `Err` comes where it is refused.
-fn begin(redone: Redone) -> Result<(Vec<Record>, Losers, Vec<Page>), Redone>
-    requires { length redone.log.records + owed redone.log.records ≤ MAX_RECORDS }
-    ensures ok { IfOk result (λ parts.
-        IsToUndo redone parts.0.items (vec_capacity parts.0) parts.1 parts.2.items) }
-    ensures err { IfErr result (λ it. it ≡ redone) }
-{
     let owed = redone.losers.owed() as usize;
     let Redone {
         log,
@@ -125,68 +104,26 @@ fn begin(redone: Redone) -> Result<(Vec<Record>, Losers, Vec<Page>), Redone>
         pages,
     } = redone;
     let (first_count, mut records) = log.into_parts();
-    if records.reserve(owed).is_err() {
-        return Err(Redone {
-            log: LogImage::from_records(first_count, records),
-            master,
-            losers,
-            pages,
-        });
+    match records.reserve(owed) {
+        Ok(()) => {}
+        Err(_) => {
+            let redone = Redone {
+                log: LogImage::from_records(first_count, records),
+                master,
+                losers,
+                pages,
+            };
+            return Err((redone, UndoFault::OutOfMemory));
+        }
     }
-    Ok((records, losers, pages))
-}
-
-/// Undoes a log for which there is room, and whose header gives this page count.
-fn finish(
-    first_count: u32,
-    records: Vec<Record>,
-    master: Master,
-    losers: Losers,
-    pages: Vec<Page>,
-) -> Undone
-    requires recovery { IsRecovery (record {
-      log = record { pages = first_count; records = records.items };
-      master = master;
-      pages = pages.items;
-    }) }
-    requires losers { AreLosersOf records.items losers }
-    requires room { length records.items + owed records.items ≤ MAX_RECORDS }
-    requires fits { length records.items + owed records.items ≤ vec_capacity records }
-    ensures { result ≡ undone (record {
-      log = record { pages = first_count; records = records.items };
-      master = master;
-      pages = pages.items;
-    }) }
-{
-    let (records, pages) = append_all(records, losers, pages);
-    Undone {
+    let count = records.len();
+    let mut sink = (records, pages);
+    undo_into(losers, count, &mut sink);
+    let (records, pages) = sink;
+    Ok(Undone {
         first_count,
         records,
         master,
         pages,
-    }
-}
-
-/// Appends all records of undo, and redoes them on the pages.
-fn append_all(
-    mut records: Vec<Record>,
-    losers: Losers,
-    mut pages: Vec<Page>,
-) -> (Vec<Record>, Vec<Page>)
-    requires log { (first : ℕ) × (IsLog (record { pages = first; records = records.items })
-        × (page_count (record { pages = first; records = records.items }) ≡ length pages.items)) }
-    requires losers { AreLosersOf records.items losers }
-    requires room { length records.items + owed records.items ≤ MAX_RECORDS }
-    requires fits { length records.items + owed records.items ≤ vec_capacity records }
-    requires numbered { AreNumbered pages.items }
-    ensures records { result.0.items ≡ after_undo records.items }
-    ensures pages { result.1.items ≡ map (λ page. image_from page
-        (drop (length records.items) (after_undo records.items))) pages.items }
-{
-    let mut undo = UndoRecords::new(losers, records.len());
-    while let Some(next) = undo.next_record() {
-        redo_on_its_page(&mut pages, &next);
-        records.push_reserved(next);
-    }
-    (records, pages)
+    })
 }
