@@ -2,6 +2,4 @@ mod CopyHeaders
 mod Points
 mod Slots
 mod Reading
-mod Words
-mod Objects
-mod Listings
+mod Apart

@@ -1,13 +1,14 @@
 -- A line that is read again, piece by piece. A piece counts as the number that its digits and letters
 -- write, so a number counts as itself.
 use Rattle.std.proofs.Common.{◌≡◌, ◌∙◌, ℕ, zero, suc, ◌+◌, ◌*◌, ◌<◌, ◌^◌, List, [], ◌∷◌, ◌++◌, Bool, false}
-use Rattle.std.proofs.Common.{append_assoc, get_or, refl, ap, sym, arith}
+use Rattle.std.proofs.Common.{append_assoc, get_or, refl, ap, arith}
 use Rattle.std.specs.Prelude.{codes, ◌==◌, ◌||◌, if◌then◌else◌}
 use Rattle.std.specs.Fmt.{decimal}
 use Rattle.std.specs.Char.{digit_value}
 use Rattle.std.specs.Str.Parse.{AllDigits, digits_value_after}
 use Rattle.std.proofs.lemmas.Fmt.{decimal_is_IsNumeral}
 use Rattle.std.proofs.lemmas.Bool.Decides.{nat_tests}
+use Rattle.file_view.specs.RecordText.{Both, Fixed, Number, Text, text_of}
 
 -- ---- characters
 
@@ -15,9 +16,9 @@ use Rattle.std.proofs.lemmas.Bool.Decides.{nat_tests}
 abbrev is_mark : ℕ → Bool
 is_mark c = digit_value c == 36
 
--- a space, a comma, a colon or a closing brace ends a piece; the other marks are passed over
+-- a space, a comma or a colon ends a piece; the other marks are passed over
 abbrev ends_piece : ℕ → Bool
-ends_piece c = c == 32 || c == 44 || c == 58 || c == 125
+ends_piece c = c == 32 || c == 44 || c == 58
 
 -- the pieces before a place, and the piece that stands there so far; or the pieces of a whole line
 pub data State : Type 0 where
@@ -80,21 +81,7 @@ run_digits pieces now (c ∷ ds) are =
     (no_mark c are.0)
     ∙ run_digits pieces (now * 10 + digit_value c) ds are.1
 
--- ---- texts that are made of fixed ones and of numbers
-
-pub data Text : Type 0 where
-  Fixed : (text : List ℕ) → Text
-  Number : (n : ℕ) → Text
-  Both : (a b : Text) → Text
-
-infixl 60 ◌&◌
-abbrev pub ◌&◌ : Text → Text → Text
-a & b = Both a b
-
-abbrev pub text_of : Text → List ℕ
-text_of (Fixed text) = text
-text_of (Number n) = decimal n
-text_of (Both a b) = text_of a ++ text_of b
+-- ---- a text of fixed ones and of numbers, read again
 
 -- its numbers fit 64 bits
 abbrev pub Fits : Text → Type 0
@@ -120,7 +107,7 @@ read_number (Within pieces zero) n fits =
 read_number (Within pieces (suc k)) n fits = refl
 read_number (Ended pieces) n fits = run_ended pieces (decimal n)
 
-pub read_text : (s : State) (t : Text) → Fits t → run s (text_of t) ≡ read s t
+read_text : (s : State) (t : Text) → Fits t → run s (text_of t) ≡ read s t
 read_text s (Fixed text) fits = refl
 read_text s (Number n) fits = read_number s n fits
 read_text s (Both a b) fits =
@@ -128,11 +115,10 @@ read_text s (Both a b) fits =
     ∙ read_text (read s a) b fits.1
 
 -- a line is read, whatever follows
-pub read_line : (text : List ℕ) (t : Text) (xs : List ℕ) → text_of t ≡ text → Fits t
-    → ended (run start (text ++ codes "\n" ++ xs)) ≡ ended (read start t)
-read_line text t xs is fits =
-    ap (λ (bs : List ℕ). ended (run start bs)) (append_assoc text (codes "\n") xs)
-    ∙ ap ended (run_both start text (codes "\n" ++ xs))
-    ∙ ap (λ bs. ended (run (run start bs) (codes "\n" ++ xs))) (sym is)
+pub read_line : (t : Text) (xs : List ℕ) → Fits t
+    → ended (run start (text_of t ++ codes "\n" ++ xs)) ≡ ended (read start t)
+read_line t xs fits =
+    ap (λ (bs : List ℕ). ended (run start bs)) (append_assoc (text_of t) (codes "\n") xs)
+    ∙ ap ended (run_both start (text_of t) (codes "\n" ++ xs))
     ∙ ap (λ u. ended (run u (codes "\n" ++ xs))) (read_text start t fits)
     ∙ ap ended (line_feed (read start t) xs)

@@ -1,5 +1,5 @@
 -- Which records are shown.
-use Rattle.std.specs.Prelude.{ℕ, ◌≡◌, ◌⊎◌, ◌≤◌, IfSome, None, Option, Some}
+use Rattle.std.specs.Prelude.{ℕ, ◌≡◌, ◌⊎◌, ◌≤◌, IfSome, None, Option}
 use Rattle.log_records.specs.declared.dirty_page.DirtyPages.{DirtyPages}
 use Rattle.log_records.specs.declared.dirty_page.DirtyPages.TheVariants.{One, Three, Two}
 use Rattle.log_records.specs.declared.record.Record.{Record}
@@ -10,19 +10,13 @@ use Rattle.log_records.specs.declared.record.Record.TheVariants.{Update}
 use Rattle.log_records.specs.Record.{own_lsn}
 use Rattle.file_view.specs.declared.wanted.Wanted.{Wanted}
 
--- the transaction whose record it is, or of which a checkpoint's record tells
-abbrev pub txn_named : Record → Option ℕ
-txn_named (Begin lsn txn) = Some txn
-txn_named (Update lsn txn prev page slot change) = Some txn
-txn_named (Comp lsn txn prev undo_next page slot change) = Some txn
-txn_named (Commit lsn txn prev) = Some txn
-txn_named (Abort lsn txn prev) = Some txn
-txn_named (End lsn txn prev) = Some txn
-txn_named (BeginChkpt lsn) = None
-txn_named (ChkptPages lsn begin pages) = None
-txn_named (ChkptTxns lsn begin txn state last undo_next) = Some txn
-txn_named (EndChkpt lsn begin redo) = None
-txn_named (Extend lsn pages) = None
+-- the LSN lies within the bounds that are told, both included
+abbrev pub IsIn : Option ℕ → Option ℕ → ℕ → Type 0
+IsIn from to lsn = IfSome from (λ least. least ≤ lsn) × IfSome to (λ most. lsn ≤ most)
+
+-- it is this number, if one is told
+abbrev pub Is : Option ℕ → ℕ → Type 0
+Is wanted number = IfSome wanted (λ told. number ≡ told)
 
 -- one of the dirty pages is this one
 abbrev pub HasPage : ℕ → DirtyPages → Type 0
@@ -30,34 +24,22 @@ HasPage page (One a) = a.page ≡ page
 HasPage page (Two a b) = (a.page ≡ page) ⊎ (b.page ≡ page)
 HasPage page (Three a b c) = (a.page ≡ page) ⊎ ((b.page ≡ page) ⊎ (c.page ≡ page))
 
--- the record changes the page, or tells that it is dirty
-abbrev pub NamesPage : ℕ → Record → Type 0
-NamesPage wanted (Begin lsn txn) = ⊥
-NamesPage wanted (Update lsn txn prev page slot change) = page ≡ wanted
-NamesPage wanted (Comp lsn txn prev undo_next page slot change) = page ≡ wanted
-NamesPage wanted (Commit lsn txn prev) = ⊥
-NamesPage wanted (Abort lsn txn prev) = ⊥
-NamesPage wanted (End lsn txn prev) = ⊥
-NamesPage wanted (BeginChkpt lsn) = ⊥
-NamesPage wanted (ChkptPages lsn begin pages) = HasPage wanted pages
-NamesPage wanted (ChkptTxns lsn begin txn state last undo_next) = ⊥
-NamesPage wanted (EndChkpt lsn begin redo) = ⊥
-NamesPage wanted (Extend lsn pages) = ⊥
-
--- the LSN lies within the bounds that are told, both included
-abbrev pub IsIn : Option ℕ → Option ℕ → ℕ → Type 0
-IsIn from to lsn = IfSome from (λ least. least ≤ lsn) × IfSome to (λ most. lsn ≤ most)
-
--- the record names the transaction, if one is told
-abbrev pub IsOfTxn : Option ℕ → Record → Type 0
-IsOfTxn txn entry = IfSome txn (λ number. txn_named entry ≡ Some number)
-
--- the record names the page, if one is told
-abbrev pub IsOnPage : Option ℕ → Record → Type 0
-IsOnPage page entry = IfSome page (λ number. NamesPage number entry)
+-- the record names the transaction and the page, as far as these are told: it is one of the
+-- transaction, or what a checkpoint found of it; it changes the page, or tells that it is dirty
+abbrev pub Names : Option ℕ → Option ℕ → Record → Type 0
+Names txn page (Begin lsn own) = Is txn own × (page ≡ None)
+Names txn page (Update lsn own prev changed slot change) = Is txn own × Is page changed
+Names txn page (Comp lsn own prev undo_next changed slot change) = Is txn own × Is page changed
+Names txn page (Commit lsn own prev) = Is txn own × (page ≡ None)
+Names txn page (Abort lsn own prev) = Is txn own × (page ≡ None)
+Names txn page (End lsn own prev) = Is txn own × (page ≡ None)
+Names txn page (BeginChkpt lsn) = (txn ≡ None) × (page ≡ None)
+Names txn page (ChkptPages lsn begin dirty) = (txn ≡ None) × IfSome page (λ told. HasPage told dirty)
+Names txn page (ChkptTxns lsn begin own state last undo_next) = Is txn own × (page ≡ None)
+Names txn page (EndChkpt lsn begin redo) = (txn ≡ None) × (page ≡ None)
+Names txn page (Extend lsn pages) = (txn ≡ None) × (page ≡ None)
 
 -- the record is shown
 abbrev pub IsWanted : Wanted → Record → Type 0
 IsWanted wanted entry =
-    IsIn wanted.from wanted.to (own_lsn entry) × IsOfTxn wanted.txn entry
-    × IsOnPage wanted.page entry
+    IsIn wanted.from wanted.to (own_lsn entry) × Names wanted.txn wanted.page entry

@@ -5,7 +5,7 @@ ghost use Rattle.std.specs.List.{AllByRecursion, flat_map};
 ghost use Rattle.log_records.specs.declared.record.Record.{Record};
 ghost use Rattle.log_records.specs.Record.{IsRecord};
 ghost use Rattle.file_view.specs.declared.lines.Form.{Form};
-ghost use Rattle.file_view.specs.Shown.{line_of};
+ghost use Rattle.file_view.specs.RecordText.{line_of};
 
 /// No record's line begins another record's, so two different records have different lines, in
 /// words and as JSON. A line has all that its record says, but for what the Set of a compensation

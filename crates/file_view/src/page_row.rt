@@ -2,6 +2,7 @@
 
 ghost use Rattle.std.specs.Prelude.{◌≡◌, ◌++◌, OnOk, codes};
 ghost use Rattle.std.specs.String.{string_bytes};
+ghost use Rattle.file_view.specs.declared.lines.Form.TheVariants.{Words};
 ghost use Rattle.file_view.specs.PageText.{page_line, slot_text, slots_text};
 
 use crate::lines::Form;
@@ -9,7 +10,10 @@ use page_core::Page;
 use std::alloc::AllocError;
 
 /// Puts the line of a page behind a text: its number, its LSN, and each slot that is not 0.
-pub fn put_page(text: &mut String, form: Form, page: &Page) -> Result<(), AllocError> {
+pub fn put_page(text: &mut String, form: Form, page: &Page) -> Result<(), AllocError>
+    ensures words { form ≡ Words → OnOk result
+        (string_bytes text.new ≡ string_bytes text.old ++ (page_line page.now ++ codes "\n")) }
+{
     match form {
         Form::Words => put_words(text, page),
         Form::Json => put_json(text, page),

@@ -1,278 +1,294 @@
-//! The line of a record.
+//! The line of a record, in words and as an object of JSON: one walk over its fields, each of which
+//! a form spells.
 
+ghost use Rattle.std.specs.Prelude.{◌≡◌, ◌++◌, OnOk};
+ghost use Rattle.std.specs.String.{string_bytes};
+ghost use Rattle.file_view.specs.RecordText.{change_text, chkpt_pages_text, deed_text, dirty_list_text};
+ghost use Rattle.file_view.specs.RecordText.{dirty_pages_text, dirty_text, either, fields, kind_text};
+ghost use Rattle.file_view.specs.RecordText.{line_of, number_text, phase_text, step_text, text_of};
+ghost use Rattle.file_view.specs.RecordText.{undo_text, value_text, word_text};
+
+use crate::lines::Form;
 use log_records::{DirtyPage, DirtyPages, Record, TxnPhase};
-use page_core::{Change, Lsn, PageNo, SlotNo};
-use std::fmt;
+use page_core::{Change, Lsn, TxnNo};
+use std::alloc::AllocError;
 
-/// A record as its line is printed, without a line feed: its LSN, its kind, and its numbers.
-#[derive(Clone, Copy)]
-pub struct RecordLine(pub Record);
-
-/// The kind of a record.
-#[derive(Clone, Copy)]
-pub(crate) struct KindText(pub Record);
-
-/// The numbers of a record behind its kind.
-#[derive(Clone, Copy)]
-struct NumbersText(Record);
-
-/// A change of an Update.
-#[derive(Clone, Copy)]
-struct ChangeText(Change);
-
-/// A change of a compensation record, whose Set does not say what it replaces.
-#[derive(Clone, Copy)]
-struct UndoText(Change);
-
-#[derive(Clone, Copy)]
-struct UndoNextText(Lsn);
-
-/// The page and the slot of a change.
-#[derive(Clone, Copy)]
-struct PlaceText(PageNo, SlotNo);
-
-/// What a checkpoint found of a transaction: its state, its last record, and its UndoNxt.
-#[derive(Clone, Copy)]
-struct FoundText(TxnPhase, Lsn, Lsn);
-
-#[derive(Clone, Copy)]
-struct DirtyText(DirtyPage);
-
-#[derive(Clone, Copy)]
-struct DirtyTexts(DirtyPages);
-
-#[derive(Clone, Copy)]
-struct PhaseText(TxnPhase);
-
-impl fmt::Display for RecordLine {
-    ghost use Rattle.std.specs.Prelude.{Some};
-    ghost use Rattle.file_view.specs.RecordText.{record_line};
-
-    ghost output = { λ it. Some (record_line it.0) };
-
-    fn fmt<W: fmt::Write>(&self, f: &mut fmt::Formatter<W>) -> fmt::Result {
-        let (lsn, kind, numbers) = (self.0.lsn().0, KindText(self.0), NumbersText(self.0));
-        write!(f, "lsn {lsn} {kind}{numbers}")
-    }
+/// Puts the line of a record behind a text.
+pub fn put_record(text: &mut String, form: Form, entry: &Record) -> Result<(), AllocError>
+    ensures { OnOk result
+        (string_bytes text.new ≡ string_bytes text.old ++ line_of form entry.now) }
+{
+    let lsn = entry.lsn().0;
+    put_either(text, form, "lsn ", "{\"lsn\":")?;
+    write!(text, "{lsn}")?;
+    put_fields(text, form, entry)?;
+    put_either(text, form, "\n", "}\n")
 }
 
-impl fmt::Display for KindText {
-    ghost use Rattle.std.specs.Prelude.{Some};
-    ghost use Rattle.file_view.specs.RecordText.{kind_text};
-
-    ghost output = { λ it. Some (kind_text it.0) };
-
-    #[tactic(auto, unfolding(crate::specs::RecordText::kind_text))]
-    fn fmt<W: fmt::Write>(&self, f: &mut fmt::Formatter<W>) -> fmt::Result {
-        match self.0 {
-            Record::Begin { .. } => f.write_str("begin"),
-            Record::Update { .. } => f.write_str("update"),
-            Record::Comp { .. } => f.write_str("comp"),
-            Record::Commit { .. } => f.write_str("commit"),
-            Record::Abort { .. } => f.write_str("abort"),
-            Record::End { .. } => f.write_str("end"),
-            Record::BeginChkpt { .. } => f.write_str("begin_chkpt"),
-            Record::ChkptPages { .. } => f.write_str("chkpt_pages"),
-            Record::ChkptTxns { .. } => f.write_str("chkpt_txns"),
-            Record::EndChkpt { .. } => f.write_str("end_chkpt"),
-            Record::Extend { .. } => f.write_str("extend"),
+/// Puts the kind of a record behind a text, and its fields.
+#[tactic(auto, unfolding(crate::specs::RecordText::fields))]
+fn put_fields(text: &mut String, form: Form, entry: &Record) -> Result<(), AllocError>
+    ensures { OnOk result
+        (string_bytes text.new ≡ string_bytes text.old ++ text_of (fields form entry.now)) }
+{
+    match *entry {
+        Record::Begin { txn, .. } => { put_kind(text, form, "begin", "txn", u64::from(txn.0)) }
+        Record::Update {
+            txn,
+            prev,
+            page,
+            slot,
+            change,
+            ..
+        } => {
+            put_step(text, form, "update", txn, prev)?;
+            put_number(text, form, "page", u64::from(page.0))?;
+            put_number(text, form, "slot", u64::from(slot.0))?;
+            put_change(text, form, change)
+        }
+        Record::Comp {
+            txn,
+            prev,
+            undo_next,
+            page,
+            slot,
+            change,
+            ..
+        } => {
+            put_step(text, form, "comp", txn, prev)?;
+            put_number(text, form, "undo_next", undo_next.0)?;
+            put_number(text, form, "page", u64::from(page.0))?;
+            put_number(text, form, "slot", u64::from(slot.0))?;
+            put_undo(text, form, change)
+        }
+        Record::Commit { txn, prev, .. } => put_step(text, form, "commit", txn, prev),
+        Record::Abort { txn, prev, .. } => put_step(text, form, "abort", txn, prev),
+        Record::End { txn, prev, .. } => put_step(text, form, "end", txn, prev),
+        Record::BeginChkpt { .. } => put_word(text, form, "kind", "begin_chkpt"),
+        Record::ChkptPages { begin, pages, .. } => { put_chkpt_pages(text, form, begin, pages) }
+        Record::ChkptTxns {
+            begin,
+            txn,
+            state,
+            last,
+            undo_next,
+            ..
+        } => {
+            put_kind(text, form, "chkpt_txns", "begin", begin.0)?;
+            put_number(text, form, "txn", u64::from(txn.0))?;
+            put_phase(text, form, state)?;
+            put_number(text, form, "last", last.0)?;
+            put_number(text, form, "undo_next", undo_next.0)
+        }
+        Record::EndChkpt { begin, redo, .. } => {
+            put_kind(text, form, "end_chkpt", "begin", begin.0)?;
+            put_number(text, form, "redo", redo.0)
+        }
+        Record::Extend { pages, .. } => {
+            put_kind(text, form, "extend", "pages", u64::from(pages))
         }
     }
 }
 
-impl fmt::Display for NumbersText {
-    ghost use Rattle.std.specs.Prelude.{Some};
-    ghost use Rattle.file_view.specs.RecordText.{numbers_text};
+// ---- parts of a record
 
-    ghost output = { λ it. Some (numbers_text it.0) };
+/// The kind of a record of a transaction, the transaction, and its record before.
+#[tactic(auto, unfolding(crate::specs::RecordText::step_text))]
+fn put_step(
+    text: &mut String,
+    form: Form,
+    kind: &str,
+    txn: TxnNo,
+    prev: Lsn,
+) -> Result<(), AllocError>
+    ensures { OnOk result
+        (string_bytes text.new ≡ string_bytes text.old ++ text_of (step_text form kind.now txn prev)) }
+{
+    put_kind(text, form, kind, "txn", u64::from(txn.0))?;
+    put_number(text, form, "prev", prev.0)
+}
 
-    #[tactic(auto, unfolding(crate::specs::RecordText::numbers_text))]
-    fn fmt<W: fmt::Write>(&self, f: &mut fmt::Formatter<W>) -> fmt::Result {
-        match self.0 {
-            Record::Begin { txn, .. } => {
-                let txn = txn.0;
-                write!(f, " txn {txn}")
-            }
-            Record::Update {
-                txn,
-                prev,
-                page,
-                slot,
-                change,
-                ..
-            } => {
-                let (txn, prev, place) = (txn.0, prev.0, PlaceText(page, slot));
-                let change = ChangeText(change);
-                write!(f, " txn {txn} prev {prev} {place} {change}")
-            }
-            Record::Comp {
-                txn,
-                prev,
-                undo_next,
-                page,
-                slot,
-                change,
-                ..
-            } => {
-                let (txn, prev, undo_next) = (txn.0, prev.0, UndoNextText(undo_next));
-                let (place, change) = (PlaceText(page, slot), UndoText(change));
-                write!(f, " txn {txn} prev {prev} {undo_next} {place} {change}")
-            }
-            Record::Commit { txn, prev, .. } => {
-                let (txn, prev) = (txn.0, prev.0);
-                write!(f, " txn {txn} prev {prev}")
-            }
-            Record::Abort { txn, prev, .. } => {
-                let (txn, prev) = (txn.0, prev.0);
-                write!(f, " txn {txn} prev {prev}")
-            }
-            Record::End { txn, prev, .. } => {
-                let (txn, prev) = (txn.0, prev.0);
-                write!(f, " txn {txn} prev {prev}")
-            }
-            Record::BeginChkpt { .. } => f.write_str(""),
-            Record::ChkptPages { begin, pages, .. } => {
-                let (begin, pages) = (begin.0, DirtyTexts(pages));
-                write!(f, " begin {begin} {pages}")
-            }
-            Record::ChkptTxns {
-                begin,
-                txn,
-                state,
-                last,
-                undo_next,
-                ..
-            } => {
-                let (begin, txn, found) = (begin.0, txn.0, FoundText(state, last, undo_next));
-                write!(f, " begin {begin} txn {txn} {found}")
-            }
-            Record::EndChkpt { begin, redo, .. } => {
-                let (begin, redo) = (begin.0, redo.0);
-                write!(f, " begin {begin} redo {redo}")
-            }
-            Record::Extend { pages, .. } => { write!(f, " pages {pages}") }
+/// The kind of a record, and its first number.
+#[tactic(auto, unfolding(crate::specs::RecordText::kind_text))]
+fn put_kind(
+    text: &mut String,
+    form: Form,
+    kind: &str,
+    name: &str,
+    number: u64,
+) -> Result<(), AllocError>
+    ensures { OnOk result
+        (string_bytes text.new
+        ≡ string_bytes text.old ++ text_of (kind_text form kind.now name.now number)) }
+{
+    put_word(text, form, "kind", kind)?;
+    put_number(text, form, name, number)
+}
+
+/// The change of an Update: the number that a Set replaces is told last in words.
+#[tactic(auto, unfolding(crate::specs::RecordText::change_text, crate::specs::RecordText::set_text))]
+fn put_change(text: &mut String, form: Form, change: Change) -> Result<(), AllocError>
+    ensures { OnOk result
+        (string_bytes text.new ≡ string_bytes text.old ++ text_of (change_text form change)) }
+{
+    match (change, form) {
+        (Change::Set { before, after }, Form::Words) => {
+            put_deed(text, form, "set", "after", after)?;
+            put_number(text, form, "before", before)
+        }
+        (Change::Set { before, after }, Form::Json) => {
+            put_deed(text, form, "set", "before", before)?;
+            put_number(text, form, "after", after)
+        }
+        (Change::Add { .. }, _) => put_undo(text, form, change),
+    }
+}
+
+/// The change of a compensation record, whose Set does not say what it replaces.
+#[tactic(auto, unfolding(crate::specs::RecordText::undo_text))]
+fn put_undo(text: &mut String, form: Form, change: Change) -> Result<(), AllocError>
+    ensures { OnOk result
+        (string_bytes text.new ≡ string_bytes text.old ++ text_of (undo_text form change)) }
+{
+    match change {
+        Change::Set { after, .. } => put_deed(text, form, "set", "after", after),
+        Change::Add { amount } => put_deed(text, form, "add", "amount", amount),
+    }
+}
+
+/// What is done to a slot, and the number that it is done with.
+#[tactic(auto, unfolding(crate::specs::RecordText::deed_text))]
+fn put_deed(
+    text: &mut String,
+    form: Form,
+    verb: &str,
+    name: &str,
+    number: u64,
+) -> Result<(), AllocError>
+    ensures { OnOk result
+        (string_bytes text.new
+        ≡ string_bytes text.old ++ text_of (deed_text form verb.now name.now number)) }
+{
+    put_word(text, form, "change", verb)?;
+    put_value(text, form, name, number)
+}
+
+#[tactic(auto, unfolding(crate::specs::RecordText::phase_text))]
+fn put_phase(text: &mut String, form: Form, state: TxnPhase) -> Result<(), AllocError>
+    ensures { OnOk result
+        (string_bytes text.new ≡ string_bytes text.old ++ text_of (phase_text form state)) }
+{
+    match state {
+        TxnPhase::Active => put_word(text, form, "state", "active"),
+        TxnPhase::Rolling => put_word(text, form, "state", "rolling"),
+    }
+}
+
+/// The kind of a record of dirty pages, the record with which its checkpoint begins, and the pages.
+#[tactic(auto, unfolding(crate::specs::RecordText::chkpt_pages_text))]
+fn put_chkpt_pages(
+    text: &mut String,
+    form: Form,
+    begin: Lsn,
+    pages: DirtyPages,
+) -> Result<(), AllocError>
+    ensures { OnOk result
+        (string_bytes text.new
+        ≡ string_bytes text.old ++ text_of (chkpt_pages_text form begin pages)) }
+{
+    put_kind(text, form, "chkpt_pages", "begin", begin.0)?;
+    put_dirty_list(text, form, pages)
+}
+
+#[tactic(auto, unfolding(crate::specs::RecordText::dirty_list_text))]
+fn put_dirty_list(text: &mut String, form: Form, pages: DirtyPages) -> Result<(), AllocError>
+    ensures { OnOk result
+        (string_bytes text.new ≡ string_bytes text.old ++ text_of (dirty_list_text form pages)) }
+{
+    put_either(text, form, "", ",\"dirty\":[")?;
+    put_dirty_pages(text, form, pages)?;
+    put_either(text, form, "", "]")
+}
+
+#[tactic(auto, unfolding(crate::specs::RecordText::dirty_pages_text))]
+fn put_dirty_pages(text: &mut String, form: Form, pages: DirtyPages) -> Result<(), AllocError>
+    ensures { OnOk result
+        (string_bytes text.new ≡ string_bytes text.old ++ text_of (dirty_pages_text form pages)) }
+{
+    match pages {
+        DirtyPages::One(a) => put_dirty(text, form, a),
+        DirtyPages::Two(a, b) => {
+            put_dirty(text, form, a)?;
+            put_either(text, form, "", ",")?;
+            put_dirty(text, form, b)
+        }
+        DirtyPages::Three(a, b, c) => {
+            put_dirty(text, form, a)?;
+            put_either(text, form, "", ",")?;
+            put_dirty(text, form, b)?;
+            put_either(text, form, "", ",")?;
+            put_dirty(text, form, c)
         }
     }
 }
 
-impl fmt::Display for ChangeText {
-    ghost use Rattle.std.specs.Prelude.{Some};
-    ghost use Rattle.file_view.specs.RecordText.{change_text};
+#[tactic(auto, unfolding(crate::specs::RecordText::dirty_text))]
+fn put_dirty(text: &mut String, form: Form, page: DirtyPage) -> Result<(), AllocError>
+    ensures { OnOk result
+        (string_bytes text.new ≡ string_bytes text.old ++ text_of (dirty_text form page)) }
+{
+    let (number, rec_lsn) = (page.page, page.rec_lsn);
+    put_either(text, form, " page ", "{\"page\":")?;
+    write!(text, "{number}")?;
+    put_number(text, form, "rec_lsn", rec_lsn)?;
+    put_either(text, form, "", "}")
+}
 
-    ghost output = { λ it. Some (change_text it.0) };
+// ---- the alphabet of a form
 
-    #[tactic(auto, unfolding(crate::specs::RecordText::change_text))]
-    fn fmt<W: fmt::Write>(&self, f: &mut fmt::Formatter<W>) -> fmt::Result {
-        match self.0 {
-            Change::Set { before, after } => write!(f, "set {after} before {before}"),
-            Change::Add { amount } => write!(f, "add {amount}"),
-        }
+/// A number behind its name.
+#[tactic(auto, unfolding(crate::specs::RecordText::number_text))]
+fn put_number(text: &mut String, form: Form, name: &str, number: u64) -> Result<(), AllocError>
+    ensures { OnOk result
+        (string_bytes text.new ≡ string_bytes text.old ++ text_of (number_text form name.now number)) }
+{
+    match form {
+        Form::Words => write!(text, " {name} {number}"),
+        Form::Json => write!(text, ",\"{name}\":{number}"),
     }
 }
 
-impl fmt::Display for UndoText {
-    ghost use Rattle.std.specs.Prelude.{Some};
-    ghost use Rattle.file_view.specs.RecordText.{undo_text};
-
-    ghost output = { λ it. Some (undo_text it.0) };
-
-    #[tactic(auto, unfolding(crate::specs::RecordText::undo_text))]
-    fn fmt<W: fmt::Write>(&self, f: &mut fmt::Formatter<W>) -> fmt::Result {
-        match self.0 {
-            Change::Set { after, .. } => write!(f, "set {after}"),
-            Change::Add { amount } => write!(f, "add {amount}"),
-        }
+/// A number that is behind its name in JSON alone.
+#[tactic(auto, unfolding(crate::specs::RecordText::value_text))]
+fn put_value(text: &mut String, form: Form, name: &str, number: u64) -> Result<(), AllocError>
+    ensures { OnOk result
+        (string_bytes text.new ≡ string_bytes text.old ++ text_of (value_text form name.now number)) }
+{
+    match form {
+        Form::Words => write!(text, " {number}"),
+        Form::Json => write!(text, ",\"{name}\":{number}"),
     }
 }
 
-impl fmt::Display for UndoNextText {
-    ghost use Rattle.std.specs.Prelude.{Some};
-    ghost use Rattle.file_view.specs.RecordText.{undo_next_text};
-
-    ghost output = { λ it. Some (undo_next_text it.0) };
-
-    #[tactic(auto, unfolding(crate::specs::RecordText::undo_next_text))]
-    fn fmt<W: fmt::Write>(&self, f: &mut fmt::Formatter<W>) -> fmt::Result {
-        let lsn = self.0.0;
-        write!(f, "undo_next {lsn}")
+/// A word that is behind its name in JSON alone.
+#[tactic(auto, unfolding(crate::specs::RecordText::word_text))]
+fn put_word(text: &mut String, form: Form, name: &str, word: &str) -> Result<(), AllocError>
+    ensures { OnOk result
+        (string_bytes text.new ≡ string_bytes text.old ++ text_of (word_text form name.now word.now)) }
+{
+    match form {
+        Form::Words => write!(text, " {word}"),
+        Form::Json => write!(text, ",\"{name}\":\"{word}\""),
     }
 }
 
-impl fmt::Display for PlaceText {
-    ghost use Rattle.std.specs.Prelude.{Some};
-    ghost use Rattle.file_view.specs.RecordText.{place_text};
-
-    ghost output = { λ it. Some (place_text it.0 it.1) };
-
-    #[tactic(auto, unfolding(crate::specs::RecordText::place_text))]
-    fn fmt<W: fmt::Write>(&self, f: &mut fmt::Formatter<W>) -> fmt::Result {
-        let (page, slot) = (self.0.0, self.1.0);
-        write!(f, "page {page} slot {slot}")
-    }
-}
-
-impl fmt::Display for FoundText {
-    ghost use Rattle.std.specs.Prelude.{Some};
-    ghost use Rattle.file_view.specs.RecordText.{found_text};
-
-    ghost output = { λ it. Some (found_text it.0 it.1 it.2) };
-
-    #[tactic(auto, unfolding(crate::specs::RecordText::found_text))]
-    fn fmt<W: fmt::Write>(&self, f: &mut fmt::Formatter<W>) -> fmt::Result {
-        let (state, last, undo_next) = (PhaseText(self.0), self.1.0, UndoNextText(self.2));
-        write!(f, "{state} last {last} {undo_next}")
-    }
-}
-
-impl fmt::Display for DirtyText {
-    ghost use Rattle.std.specs.Prelude.{Some};
-    ghost use Rattle.file_view.specs.RecordText.{dirty_text};
-
-    ghost output = { λ it. Some (dirty_text it.0) };
-
-    #[tactic(auto, unfolding(crate::specs::RecordText::dirty_text))]
-    fn fmt<W: fmt::Write>(&self, f: &mut fmt::Formatter<W>) -> fmt::Result {
-        let (page, rec_lsn) = (self.0.page, self.0.rec_lsn);
-        write!(f, "page {page} rec_lsn {rec_lsn}")
-    }
-}
-
-impl fmt::Display for DirtyTexts {
-    ghost use Rattle.std.specs.Prelude.{Some};
-    ghost use Rattle.file_view.specs.RecordText.{dirty_texts};
-
-    ghost output = { λ it. Some (dirty_texts it.0) };
-
-    #[tactic(auto, unfolding(crate::specs::RecordText::dirty_texts))]
-    fn fmt<W: fmt::Write>(&self, f: &mut fmt::Formatter<W>) -> fmt::Result {
-        match self.0 {
-            DirtyPages::One(a) => {
-                let a = DirtyText(a);
-                write!(f, "{a}")
-            }
-            DirtyPages::Two(a, b) => {
-                let (a, b) = (DirtyText(a), DirtyText(b));
-                write!(f, "{a} {b}")
-            }
-            DirtyPages::Three(a, b, c) => {
-                let (a, b, c) = (DirtyText(a), DirtyText(b), DirtyText(c));
-                write!(f, "{a} {b} {c}")
-            }
-        }
-    }
-}
-
-impl fmt::Display for PhaseText {
-    ghost use Rattle.std.specs.Prelude.{Some};
-    ghost use Rattle.file_view.specs.RecordText.{phase_text};
-
-    ghost output = { λ it. Some (phase_text it.0) };
-
-    #[tactic(auto, unfolding(crate::specs::RecordText::phase_text))]
-    fn fmt<W: fmt::Write>(&self, f: &mut fmt::Formatter<W>) -> fmt::Result {
-        match self.0 {
-            TxnPhase::Active => f.write_str("active"),
-            TxnPhase::Rolling => f.write_str("rolling"),
-        }
+/// The one text in words, and the other one in JSON.
+fn put_either(text: &mut String, form: Form, words: &str, json: &str) -> Result<(), AllocError>
+    ensures { OnOk result
+        (string_bytes text.new ≡ string_bytes text.old ++ either form words.now json.now) }
+{
+    match form {
+        Form::Words => text.push_str(words),
+        Form::Json => text.push_str(json),
     }
 }

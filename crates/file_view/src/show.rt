@@ -1,21 +1,16 @@
 //! Shows a file.
 
-ghost use Rattle.std.specs.Prelude.{◌≡◌, ◌++◌, OnOk, codes};
-ghost use Rattle.std.specs.String.{string_bytes};
-ghost use Rattle.file_view.specs.Shown.{line_of};
-
 use crate::copy_header::read_copy_header;
 use crate::fault::ViewFault;
 use crate::head::{Head, HeadJson};
 use crate::kind::{FileKind, kind_of};
 use crate::lines::{Form, Lines};
 use crate::page_row::put_page;
-use crate::record_json::RecordJson;
-use crate::record_line::RecordLine;
+use crate::record_line::put_record;
 use crate::wanted::Wanted;
 use copy_vault::{ArchiveFault, read_archive};
 use log_front::read_front;
-use log_records::{HEADER_BYTES, RECORD_BYTES, Record, log_header};
+use log_records::{HEADER_BYTES, RECORD_BYTES, log_header};
 use log_store::decode_master;
 use page_core::{PAGE_BYTES, Page};
 use std::alloc::{AllocError, Global};
@@ -86,23 +81,6 @@ fn show_log<W: Write>(
     match front.cut() {
         Some(cut) => Err(ViewFault::Log(cut.fault())),
         None => Ok(()),
-    }
-}
-
-/// Puts the line of a record behind a text.
-pub fn put_record(text: &mut String, form: Form, entry: &Record) -> Result<(), AllocError>
-    ensures { OnOk result
-        (string_bytes text.new ≡ string_bytes text.old ++ line_of form entry.now) }
-{
-    match form {
-        Form::Words => {
-            let line = RecordLine(*entry);
-            writeln!(text, "{line}")
-        }
-        Form::Json => {
-            let line = RecordJson(*entry);
-            writeln!(text, "{line}")
-        }
     }
 }
 

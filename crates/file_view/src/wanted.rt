@@ -1,8 +1,7 @@
 //! Which records and pages are shown.
 
-ghost use Rattle.std.specs.Prelude.{◌≡◌, ◌↔◌, IsTrue, Some};
-ghost use Rattle.file_view.specs.Wanted.{IsIn, IsOfTxn, IsOnPage, IsWanted, txn_named};
-ghost use Rattle.file_view.specs.Wanted.{NamesPage};
+ghost use Rattle.std.specs.Prelude.{◌↔◌, IfSome, IsTrue};
+ghost use Rattle.file_view.specs.Wanted.{HasPage, Is, IsIn, IsWanted, Names};
 
 use log_records::{DirtyPages, Record};
 use page_core::{Lsn, PageNo, TxnNo};
@@ -23,9 +22,7 @@ impl Wanted {
     pub fn takes(&self, entry: &Record) -> bool
         ensures { IsTrue result ↔ IsWanted self.now entry.now }
     {
-        is_in(self.from, self.to, entry.lsn())
-            && is_of_txn(self.txn, entry)
-            && is_on_page(self.page, entry)
+        is_in(self.from, self.to, entry.lsn()) && names(self.txn, self.page, entry)
     }
 
     /// Whether a page of an archive or of a volume is shown.
@@ -51,63 +48,61 @@ fn is_in(from: Option<Lsn>, to: Option<Lsn>, lsn: Lsn) -> bool
     is_from && is_to
 }
 
-fn is_of_txn(txn: Option<TxnNo>, entry: &Record) -> bool
-    ensures { IsTrue result ↔ IsOfTxn txn entry.now }
+/// Whether the record names the transaction and the page, as far as these are told: it is one of the
+/// transaction, or what a checkpoint found of it; it changes the page, or says that it is dirty.
+fn names(txn: Option<TxnNo>, page: Option<PageNo>, entry: &Record) -> bool
+    ensures { IsTrue result ↔ Names txn page entry.now }
 {
-    match txn {
-        Some(txn) => names_txn(txn, entry),
+    match *entry {
+        Record::Begin { txn: own, .. }
+        | Record::Commit { txn: own, .. }
+        | Record::Abort { txn: own, .. }
+        | Record::End { txn: own, .. }
+        | Record::ChkptTxns { txn: own, .. } => is_txn(txn, own) && page.is_none(),
+        Record::Update {
+            txn: own,
+            page: changed,
+            ..
+        }
+        | Record::Comp {
+            txn: own,
+            page: changed,
+            ..
+        } => is_txn(txn, own) && is_page(page, changed),
+        Record::ChkptPages { pages, .. } => txn.is_none() && is_among(page, pages),
+        Record::BeginChkpt { .. } | Record::EndChkpt { .. } | Record::Extend { .. } => {
+            txn.is_none() && page.is_none()
+        }
+    }
+}
+
+fn is_txn(wanted: Option<TxnNo>, txn: TxnNo) -> bool
+    ensures { IsTrue result ↔ Is wanted txn }
+{
+    match wanted {
+        Some(wanted) => txn == wanted,
         None => true,
     }
 }
 
-fn is_on_page(page: Option<PageNo>, entry: &Record) -> bool
-    ensures { IsTrue result ↔ IsOnPage page entry.now }
+fn is_page(wanted: Option<PageNo>, page: PageNo) -> bool
+    ensures { IsTrue result ↔ Is wanted page }
 {
-    match page {
-        Some(page) => names_page(page, entry),
+    match wanted {
+        Some(wanted) => page == wanted,
         None => true,
     }
 }
 
-/// Whether the record is one of the transaction, or what a checkpoint found of it.
-fn names_txn(wanted: TxnNo, entry: &Record) -> bool
-    ensures { IsTrue result ↔ (txn_named entry.now ≡ Some wanted) }
+fn is_among(wanted: Option<PageNo>, pages: DirtyPages) -> bool
+    ensures { IsTrue result ↔ IfSome wanted (λ told. HasPage told pages) }
 {
-    match *entry {
-        Record::Begin { txn, .. }
-        | Record::Update { txn, .. }
-        | Record::Comp { txn, .. }
-        | Record::Commit { txn, .. }
-        | Record::Abort { txn, .. }
-        | Record::End { txn, .. }
-        | Record::ChkptTxns { txn, .. } => txn == wanted,
-        Record::BeginChkpt { .. }
-        | Record::ChkptPages { .. }
-        | Record::EndChkpt { .. }
-        | Record::Extend { .. } => false,
-    }
-}
-
-/// Whether the record changes the page, or says that it is dirty.
-fn names_page(wanted: PageNo, entry: &Record) -> bool
-    ensures { IsTrue result ↔ NamesPage wanted entry.now }
-{
-    match *entry {
-        Record::Update { page, .. } | Record::Comp { page, .. } => page == wanted,
-        Record::ChkptPages { pages, .. } => match pages {
-            DirtyPages::One(a) => a.page == wanted.0,
-            DirtyPages::Two(a, b) => a.page == wanted.0 || b.page == wanted.0,
-            DirtyPages::Three(a, b, c) => {
-                a.page == wanted.0 || b.page == wanted.0 || c.page == wanted.0
-            }
-        },
-        Record::Begin { .. }
-        | Record::Commit { .. }
-        | Record::Abort { .. }
-        | Record::End { .. }
-        | Record::BeginChkpt { .. }
-        | Record::ChkptTxns { .. }
-        | Record::EndChkpt { .. }
-        | Record::Extend { .. } => false,
+    let Some(PageNo(page)) = wanted else {
+        return true;
+    };
+    match pages {
+        DirtyPages::One(a) => a.page == page,
+        DirtyPages::Two(a, b) => a.page == page || b.page == page,
+        DirtyPages::Three(a, b, c) => a.page == page || b.page == page || c.page == page,
     }
 }

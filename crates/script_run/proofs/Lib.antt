@@ -1,3 +1,2 @@
 mod Faultless
 mod Runs
-mod Slots
