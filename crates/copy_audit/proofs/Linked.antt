@@ -8,7 +8,7 @@ use Rattle.std.proofs.lemmas.Bool.{cases_eq, cases_lt, le-ltb, lt-ltb}
 use Rattle.std.proofs.lemmas.List.{get_or-replicate, get_or-set_other, get_or-set_same, length-set, take_all, take_more}
 use Rattle.std.proofs.lemmas.List.Elements.{filter-append, filter_map-append}
 use Rattle.std.proofs.lemmas.Option.{slice_get-get_or, slice_get_read}
-use Rattle.log_changes.specs.Placed.{Placed}
+use Rattle.page_redo.specs.Placed.{Placed}
 use Rattle.copy_audit.specs.Links.{AreLinked, AreOnwards, at_places, is_place_on, linked_by, linked_from, on_page}
 use Rattle.copy_audit.specs.Links.{places_on}
 

@@ -6,7 +6,7 @@ use Rattle.page_core.specs.declared.page.Page.{Page}
 use Rattle.log_records.specs.declared.record.Record.{Record}
 use Rattle.log_records.specs.Log.{Log, lsn_of, page_count}
 use Rattle.log_records.proofs.Public.{last_count-counts_of}
-use Rattle.log_changes.specs.Kept.{Kept}
+use Rattle.loser_undo.specs.Kept.{Kept}
 use Rattle.page_core.specs.PageCounts.{last_count}
 use Rattle.copy_archives.specs.declared.chain_reader.ChainReader.{ChainReader}
 use Rattle.copy_archives.specs.ChainEach.{IsEachRead, IsReadingEach, ids_of, place_list, points_of}

@@ -22,8 +22,8 @@ use Rattle.log_records.specs.Record.{change_of, own_lsn}
 use Rattle.log_records.specs.Log.{Log}
 use Rattle.log_records.specs.declared.limits.TheConstants.{MAX_RECORDS}
 use Rattle.std.proofs.lemmas.List.FromFn.{get_or-map-range_with_len}
-use Rattle.log_changes.specs.Kept.{Kept}
-use Rattle.log_changes.specs.Placed.{Placed, placed_at, placed_by, placed_in, redo_part}
+use Rattle.loser_undo.specs.Kept.{Kept}
+use Rattle.page_redo.specs.Placed.{Placed, placed_at, placed_by, placed_in, redo_part}
 use Rattle.page_redo.specs.PageRecords.{first_numbers_on, is_on, number_is_on, numbers_on}
 use Rattle.page_redo.proofs.Public.{numbers_more}
 use Rattle.copy_audit.specs.Changes.{AreChangesOf, IsKeptOf}

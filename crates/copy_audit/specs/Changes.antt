@@ -2,8 +2,8 @@
 use Rattle.std.specs.Prelude.{ℕ, ◌≡◌, List, length}
 use Rattle.log_records.specs.declared.record.Record.{Record}
 use Rattle.log_records.specs.Log.{IsLog, Log}
-use Rattle.log_changes.specs.Kept.{Kept, kept_of}
-use Rattle.log_changes.specs.Placed.{Placed, placed_in}
+use Rattle.loser_undo.specs.Kept.{Kept, kept_of}
+use Rattle.page_redo.specs.Placed.{Placed, placed_in}
 use Rattle.copy_audit.specs.Links.{on_page}
 
 -- this was kept of the log

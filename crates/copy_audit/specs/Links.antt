@@ -3,7 +3,7 @@ use Rattle.std.specs.Prelude.{ℕ, zero, suc, ◌≡◌, ◌-◌, ◌<◌, ◌�
 use Rattle.std.specs.Prelude.{nat_lt, if◌then◌else◌, length, slice_get, slice_index, filter}
 use Rattle.std.specs.List.{filter_map, range_with_len}
 use Rattle.std.specs.Option.{option_map_or}
-use Rattle.log_changes.specs.Placed.{Placed}
+use Rattle.page_redo.specs.Placed.{Placed}
 
 -- behind each place stands a later one, or the end
 pub record AreOnwards (nexts : List ℕ) : Type 0 where

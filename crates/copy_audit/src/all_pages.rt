@@ -18,8 +18,9 @@ use crate::members::first_unsound;
 use crate::page_links::PageLinks;
 use crate::unsound::Unsound;
 use copy_vault::{ChainReadFault, ChainReader, CopyId};
-use log_changes::{LogChanges, PlacedChange, read_changes};
+use loser_undo::{LogChanges, read_changes};
 use page_core::{Lsn, Page, PageNo};
+use page_redo::PlacedChange;
 use std::alloc::{AllocError, Global};
 use std::io::Read;
 

@@ -10,8 +10,8 @@ ghost use Rattle.copy_audit.specs.Rows.{IsFirstOf};
 
 use crate::reach::Reach;
 use crate::trace::Trace;
-use log_changes::PlacedChange;
 use page_core::{Lsn, Page, PageNo};
+use page_redo::PlacedChange;
 use std::alloc::{AllocError, Global};
 
 /// A page that is to be looked at.

@@ -8,8 +8,8 @@ ghost use Rattle.copy_audit.specs.Rows.{IsFirstOf};
 
 use crate::by_lsn::first_by_lsn;
 use crate::trace::Trace;
-use log_changes::PlacedChange;
 use page_core::{Lsn, Page, PageNo};
+use page_redo::PlacedChange;
 use std::alloc::{AllocError, Global};
 
 /// The first of so many members of a chain up to which the chain's page of this number is not an

@@ -5,13 +5,13 @@ ghost use Rattle.std.specs.Prelude.{slice_index_or};
 ghost use Rattle.page_core.specs.declared.page.Page.{Page};
 ghost use Rattle.page_core.specs.declared.numbers.TheConstants.{LSN_STEP};
 ghost use Rattle.log_records.specs.declared.record.Record.{Record};
-ghost use Rattle.log_changes.specs.Placed.{Placed};
+ghost use Rattle.page_redo.specs.Placed.{Placed};
 ghost use Rattle.copy_audit.specs.Changes.{AreChangesOf};
 ghost use Rattle.copy_audit.specs.Trace.{IsReach, IsSeen, IsTraced};
 
 use crate::reach::Reach;
-use log_changes::PlacedChange;
 use page_core::{LSN_STEP, Lsn, Page, PageNo};
+use page_redo::PlacedChange;
 
 /// How far the changes of one page were redone, from its formatting on.
 #[derive(Drop)]

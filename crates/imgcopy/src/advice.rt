@@ -6,10 +6,9 @@ use crate::reasons::{
 use copy_audit::Unsound;
 use copy_coverage::Retired;
 use copy_vault::{CopyId, MAX_COPIES};
-use event_script::{MAX_SCRIPT_BYTES, ScriptFault};
+use event_script::{BadLine, MAX_SCRIPT_BYTES, ScriptFault};
 use media_restore::RestoreFault;
 use saved_files::{SaveFault, SavedName};
-use script_advice::BadLine;
 use script_run::RunFault;
 use std::alloc::{AllocError, Global};
 use std::io::ErrorKind;

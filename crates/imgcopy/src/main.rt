@@ -30,9 +30,11 @@ use command_words::{Command, command_of, words_of};
 use event_script::MAX_SCRIPT_BYTES;
 use file_view::{Form, Wanted};
 use list::list;
+use open_database::{OpenCall, OpenEnd, open_folder};
 use output::{Inputs, Limits, tell_output};
 use output_folder::OutputFolder;
 use page_core::{FaultName, Lsn, PageNo, TxnNo};
+use page_redo::{RedoFault, redo_stream};
 use reasons::{Named, tell_redo};
 use redone_volume::RedoneVolume;
 use restores::{Outputs, restore};
@@ -50,8 +52,6 @@ use std::{fmt, io};
 use strict::{Kept, Refusals, Tallied, line_of_call};
 use system_files::{EscapedText, Noted, Notes, Patient};
 use view::show;
-use volume_folder::{OpenCall, OpenEnd, open_folder};
-use volume_redo::{Fault, redo_stream};
 
 /// How many bytes of a script are kept at most, to show a bad line.
 const MOST_KEPT: usize = 65_536;
@@ -176,8 +176,8 @@ fn redo(rt: &HostRuntime) -> ExitCode {
     );
     let status = status_of(rt, &done);
     match &done {
-        Err(Fault::ReadFault) => tell_unread(rt, &input),
-        Err(Fault::WriteFault(_)) => tell_unwritten(rt, &output),
+        Err(RedoFault::ReadFault) => tell_unread(rt, &input),
+        Err(RedoFault::WriteFault(_)) => tell_unwritten(rt, &output),
         Err(fault) => tell_redo(rt, fault),
         Ok(()) => {}
     }
@@ -203,8 +203,8 @@ fn redo_into(rt: &HostRuntime, path: &str, force: bool) -> ExitCode {
         Err(PutStoredFault::Unput(PutFault::Unwritten(fault))) => {
             let status = status_of(rt, &Err(fault));
             match &fault {
-                Fault::ReadFault => tell_unread(rt, &input),
-                Fault::WriteFault(_) => tell_output(rt, path, &notes),
+                RedoFault::ReadFault => tell_unread(rt, &input),
+                RedoFault::WriteFault(_) => tell_output(rt, path, &notes),
                 fault => tell_redo(rt, fault),
             }
             status
@@ -394,7 +394,7 @@ fn told_whole(rt: &impl Eprint, text: &impl Display) -> ExitCode
 }
 
 /// Tells a fault on standard error, and answers the program's status.
-fn status_of(rt: &impl Eprint, done: &Result<(), Fault>) -> ExitCode
+fn status_of(rt: &impl Eprint, done: &Result<(), RedoFault>) -> ExitCode
     ensures done { OnOk done.now (exit_status result ≡ 0) }
     ensures fault { IfErr done.now (λ _. exit_status result ≡ 2) }
 {

@@ -10,10 +10,10 @@ use log_store::LogReadFault;
 use media_restore::RestoreFault;
 use page_core::field::u64_at;
 use page_core::{Lsn, PAGE_BYTES, PageNo};
+use page_redo::Fault;
 use std::io::{Read, Seek, SeekFrom};
 use std::{fmt, fs};
 use system_files::{Escaped, Notes};
-use volume_redo::Fault;
 
 /// The place of the first archive, behind the log and the master record.
 const FIRST_ARCHIVE: usize = 2;
@@ -154,15 +154,15 @@ impl fmt::Display for Reason {
 }
 
 /// What is wrong with the log on standard input, where that is a file that can be read again.
-pub fn tell_redo(rt: &HostRuntime, fault: &Fault) {
+pub fn tell_redo(rt: &HostRuntime, fault: &RedoFault) {
     if !is_regular(rt, STANDARD_INPUT) {
         return;
     }
     let reason = match fault {
-        Fault::BadHeader => reason_of_header(rt, STANDARD_INPUT, 0),
-        Fault::BadRecord(at) => reason_of_record(rt, STANDARD_INPUT, *at),
-        Fault::Torn(at) => reason_of_torn(rt, STANDARD_INPUT, *at),
-        Fault::BadChain(at) => reason_of_chain(rt, STANDARD_INPUT, *at),
+        RedoFault::BadHeader => reason_of_header(rt, STANDARD_INPUT, 0),
+        RedoFault::BadRecord(at) => reason_of_record(rt, STANDARD_INPUT, *at),
+        RedoFault::Torn(at) => reason_of_torn(rt, STANDARD_INPUT, *at),
+        RedoFault::BadChain(at) => reason_of_chain(rt, STANDARD_INPUT, *at),
         _ => None,
     };
     if let Some(reason) = reason {

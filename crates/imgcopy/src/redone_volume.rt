@@ -1,9 +1,9 @@
 //! The volume of a log, as what a file is made of.
 
+use page_redo::{RedoFault, redo_stream};
 use saved_files::Source;
 use std::alloc::Global;
 use std::io::{Read, Write};
-use volume_redo::{Fault, redo_stream};
 
 /// The volume that `redo_stream` makes of the log that a reader gives.
 #[derive(Drop)]
@@ -12,15 +12,15 @@ pub struct RedoneVolume<R: Read + Drop> {
 }
 
 impl<R: Read + Drop> Source for RedoneVolume<R> {
-    ghost use Rattle.volume_redo.specs.Stream.{Leaves, WritesVolume};
+    ghost use Rattle.page_redo.specs.Stream.{Leaves, WritesVolume};
 
-    type Fault = Fault;
+    type Fault = RedoFault;
 
     ghost gives = { λ it. WritesVolume (R.remaining it.log) };
 
     ghost leaves = { λ it fault old new. Leaves (R.remaining it.log) old new fault };
 
-    fn write_to<W: Write>(&mut self, alloc: Global, writer: &mut W) -> Result<(), Fault> {
+    fn write_to<W: Write>(&mut self, alloc: Global, writer: &mut W) -> Result<(), RedoFault> {
         redo_stream(alloc, &mut self.log, writer)
     }
 }

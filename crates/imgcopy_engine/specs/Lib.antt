@@ -14,7 +14,6 @@ pub use Rattle.engine_run.specs as engine_run
 pub use Rattle.file_devices.specs as file_devices
 pub use Rattle.fuzzy_ckpt.specs as fuzzy_ckpt
 pub use Rattle.image_copies.specs as image_copies
-pub use Rattle.log_changes.specs as log_changes
 pub use Rattle.log_front.specs as log_front
 pub use Rattle.log_records.specs as log_records
 pub use Rattle.log_rules.specs as log_rules

@@ -3,3 +3,4 @@ pub mod Forced
 pub mod Fronts
 pub mod Pieces
 pub mod Scanned
+pub mod Places

@@ -6,6 +6,7 @@ mod cut;
 mod fault;
 mod front;
 mod laws;
+mod remains;
 mod scan;
 
 pub use cut::{Cut, CutReason};
@@ -16,4 +17,5 @@ pub use laws::{
     forced_records_are_in_the_front, fronts_are_fronts_of_themselves,
     fronts_have_what_a_device_keeps,
 };
+pub use remains::forced_behind;
 pub use scan::{FrontScan, scan_front};

@@ -20,3 +20,5 @@ pub mod Tails
 pub mod Traced
 pub mod Held
 pub mod Yields
+pub mod Completed
+pub mod Keeping

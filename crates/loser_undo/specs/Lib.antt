@@ -1,6 +1,8 @@
 pub mod Fault
+pub mod Kept
 pub mod LastChanges
 pub mod Losers
+pub mod PageUndo
 pub mod Recovery
 pub mod Tail
 pub mod Undo

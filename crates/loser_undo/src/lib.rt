@@ -3,6 +3,9 @@
 
 mod analysis;
 mod fault;
+mod log_changes;
+mod page_undo;
+mod read;
 mod redone;
 mod tail;
 mod trace;
@@ -13,6 +16,9 @@ mod undone;
 
 pub use analysis::losers;
 pub use fault::UndoFault;
+pub use log_changes::LogChanges;
+pub use page_undo::undo_open;
+pub use read::read_changes;
 pub use redone::Redone;
 pub use tail::{OpenTxn, complete_checkpoints_begin_tails, open_at_end, open_by_tail};
 pub use undo_laws::{

@@ -31,7 +31,7 @@ use Rattle.loser_undo.proofs.Public.{undone_committed, undone_count, undone_whol
 use Rattle.log_records.proofs.Public.{last_count-counts_of}
 use Rattle.page_core.specs.PageCounts.{last_count}
 use Rattle.loser_undo.proofs.Public.{numbered_resumed}
-use Rattle.log_changes.specs.Kept.{Kept, kept_of}
+use Rattle.loser_undo.specs.Kept.{Kept, kept_of}
 use Rattle.media_restore.specs.declared.files_fault.RestoreFault.{RestoreFault}
 use Rattle.media_restore.specs.declared.files_fault.RestoreFault.TheVariants.{OutOfMemory, LogFull, WriteFault}
 use Rattle.media_restore.specs.declared.files_fault.RestoreFault.TheVariants.{BadHeader, BadRecord, Torn, ReadFault}

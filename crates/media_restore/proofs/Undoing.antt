@@ -13,8 +13,8 @@ use Rattle.loser_undo.specs.Losers.{AreLosersOf}
 use Rattle.loser_undo.proofs.Public.{owed_few}
 use Rattle.loser_undo.proofs.Public.{owed_of}
 use Rattle.loser_undo.proofs.Public.{numbered_resumed}
-use Rattle.log_changes.specs.Kept.{Kept}
-use Rattle.log_changes.specs.Undo.{IsToUndo}
+use Rattle.loser_undo.specs.Kept.{Kept}
+use Rattle.loser_undo.specs.PageUndo.{IsToUndo}
 use Rattle.media_restore.specs.Files.{IsRead, most_records}
 
 -- how many records the log would have, as they are counted

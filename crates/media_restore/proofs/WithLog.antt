@@ -14,7 +14,7 @@ use Rattle.log_rules.specs.Linked.{IsLinked}
 use Rattle.log_rules.specs.Transactions.{open_in}
 use Rattle.log_rules.proofs.Public.{complete_later}
 use Rattle.log_store.specs.declared.master.Master.{Master}
-use Rattle.log_changes.specs.Kept.{kept_of}
+use Rattle.loser_undo.specs.Kept.{kept_of}
 use Rattle.copy_archives.specs.ChainReading.{IsChainRead}
 use Rattle.loser_undo.specs.Losers.{losers_of}
 use Rattle.loser_undo.specs.Recovery.{IsRecovery, appended}

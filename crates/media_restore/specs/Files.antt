@@ -16,7 +16,7 @@ use Rattle.log_store.specs.declared.fault.LogReadFault.{LogReadFault}
 use Rattle.log_store.specs.declared.master.Master.{Master}
 use Rattle.log_store.specs.Fault.{Refuses}
 use Rattle.log_store.specs.Master.{SpellsMaster}
-use Rattle.log_changes.specs.Kept.{Kept, kept_of}
+use Rattle.loser_undo.specs.Kept.{Kept, kept_of}
 use Rattle.image_copies.specs.Chain.{IsChain, contents, last_redo}
 use Rattle.image_copies.specs.Copy.{CopyView}
 use Rattle.loser_undo.specs.Losers.{losers_of}

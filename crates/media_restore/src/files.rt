@@ -14,14 +14,14 @@ ghost use Rattle.media_restore.specs.declared.files_fault.RestoreFault.TheVarian
 use crate::files_fault::RestoreFault;
 use crate::files_master::read_master;
 use copy_vault::read_chain_pages;
-use log_changes::{LogChanges, read_changes, redo_changes, undo_open};
 use log_records::MAX_RECORDS;
+use loser_undo::{LogChanges, read_changes, undo_open};
 use page_core::{Lsn, PAGE_BYTES, Page, zeros};
+use page_redo::{redo_changes, write_volume};
 use std::alloc::Global;
 use std::io::{Read, Write};
 use std::thread::Threads;
 use txn_table::Losers;
-use volume_output::write_volume;
 
 /// How many pages are written at once.
 pub(crate) const BUFFER_PAGES: usize = 512;

@@ -6,7 +6,7 @@ ghost use Rattle.log_records.specs.Image.{image_from};
 ghost use Rattle.log_records.specs.Log.{IsLog};
 ghost use Rattle.log_records.specs.declared.limits.TheConstants.{MAX_RECORDS};
 ghost use Rattle.log_rules.specs.Checkpoint.{IsCompleteCheckpoint};
-ghost use Rattle.log_changes.specs.Kept.{kept_of};
+ghost use Rattle.loser_undo.specs.Kept.{kept_of};
 ghost use Rattle.loser_undo.specs.Recovery.{IsRecovery, appended};
 ghost use Rattle.media_restore.specs.Files.{Refused, most_records};
 ghost use Rattle.media_restore.specs.FilesLog.{IsRestoredWithLog, LeavesBoth, WritesBoth};
@@ -21,14 +21,13 @@ use crate::files_master::read_master;
 use crate::log_output::write_log;
 use crate::with_log_fault::WithLogFault;
 use copy_vault::read_chain_pages;
-use log_changes::LogChanges;
 use log_store::{LogImage, Master, RecordSink, read_log};
-use loser_undo::{Redone, UndoFault, Undone, undo_all};
+use loser_undo::{LogChanges, Redone, UndoFault, Undone, undo_all};
 use page_core::{Lsn, PAGE_BYTES, Page, zeros};
+use page_redo::write_volume;
 use std::alloc::{AllocError, Global};
 use std::io::{Read, Write};
 use std::thread::Threads;
-use volume_output::write_volume;
 
 /// Restores a volume from files as `restore_files` does, and writes two things: the bytes of the
 /// log after undo, which has the records that undo appends, and then those of the volume. A

@@ -4,15 +4,15 @@ ghost use Rattle.std.specs.Prelude.{◌≡◌, ◌↔◌, ◌≤◌, IfOk, IfErr
 ghost use Rattle.page_core.specs.Input.{HasGivenAll};
 ghost use Rattle.log_records.specs.Log.{Log};
 ghost use Rattle.log_rules.specs.Linked.{IsLinked};
-ghost use Rattle.log_changes.specs.Kept.{kept_of};
+ghost use Rattle.loser_undo.specs.Kept.{kept_of};
 ghost use Rattle.log_store.specs.Master.{SpellsMaster};
 ghost use Rattle.media_restore.specs.Files.{IsOfMaster, MasterRefused, NotSpelled};
 ghost use Rattle.media_restore.specs.FilesStop.{FailsInMaster};
 ghost use Rattle.media_restore.specs.declared.files_fault.RestoreFault.TheVariants.{BadHeader};
 
 use crate::files_fault::RestoreFault;
-use log_changes::LogChanges;
 use log_store::{MASTER_BYTES, Master, decode_master};
+use loser_undo::LogChanges;
 use page_core::{MAX_TURNS, Turn, read_more};
 use std::io::Read;
 

@@ -27,9 +27,9 @@ pub use loaded::Loaded;
 pub use log_output::{write_log, written_logs_are_read_again};
 pub use master_check::check_master;
 pub use master_laws::masters_have_one_fault;
+pub use page_redo::write_volume;
 pub use rebuilt::{Rebuilt, rebuild, recover};
 pub use saved_laws::{
     saved_files_are_right, saved_files_restore_what_was_committed, what_is_left_can_be_saved,
 };
-pub use volume_output::write_volume;
 pub use with_log_fault::WithLogFault;

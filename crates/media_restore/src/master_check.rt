@@ -5,7 +5,7 @@ ghost use Rattle.media_restore.specs.MasterCheck.{IsRightMaster, RefusesMaster};
 
 use crate::files_fault::RestoreFault;
 use crate::files_master::read_master;
-use log_changes::read_changes;
+use loser_undo::read_changes;
 use std::alloc::Global;
 use std::io::Read;
 

@@ -8,3 +8,6 @@ pub mod Starts
 pub mod Valid
 pub mod Volumes
 pub mod Covering
+pub mod Pieces
+pub mod Rising
+pub mod Groups

@@ -1,2 +1,4 @@
 pub mod PageRecords
+pub mod Placed
 pub mod Redo
+pub mod Stream

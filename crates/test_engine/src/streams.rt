@@ -4,10 +4,10 @@
 use crate::asserts::{assert_fault, assert_texts, same_at};
 use crate::groups::{Groups, assert_bytes, bytes_of};
 use page_core::Lsn;
+use page_redo::{RedoFault, redo_stream};
 use std::io;
 use std::io::{ErrorKind, Read, Write};
 use std::process::Abort;
-use volume_redo::{Fault, redo_stream};
 
 const ONE_PAGE: &str = "41494d474c4f4732 0100000000000000 0 0 0 0 0 0";
 
@@ -480,15 +480,15 @@ fn tries_an_interrupted_write_again(rt: HostRuntime) {
     assert_written(&rt, FOUR_RECORDS, &volume, &OFTEN_INTERRUPTED);
 }
 
-const FAULTS: [(Fault, &str); 8] = [
-    (Fault::OutOfMemory, "E1 OutOfMemory"),
-    (Fault::WriteFault(7), "E29 WriteFault 7"),
-    (Fault::BadHeader, "E30 BadHeader"),
-    (Fault::BadRecord(Lsn(128)), "E31 BadRecord 128"),
-    (Fault::Torn(Lsn(256)), "E32 Torn 256"),
-    (Fault::ReadFault, "E33 ReadFault"),
-    (Fault::TooLong, "E34 TooLong"),
-    (Fault::BadChain(Lsn(256)), "E35 BadChain 256"),
+const FAULTS: [(RedoFault, &str); 8] = [
+    (RedoFault::OutOfMemory, "E1 OutOfMemory"),
+    (RedoFault::WriteFault(7), "E29 WriteFault 7"),
+    (RedoFault::BadHeader, "E30 BadHeader"),
+    (RedoFault::BadRecord(Lsn(128)), "E31 BadRecord 128"),
+    (RedoFault::Torn(Lsn(256)), "E32 Torn 256"),
+    (RedoFault::ReadFault, "E33 ReadFault"),
+    (RedoFault::TooLong, "E34 TooLong"),
+    (RedoFault::BadChain(Lsn(256)), "E35 BadChain 256"),
 ];
 
 #[test]

@@ -14,6 +14,8 @@ mod devices;
 #[cfg(test)]
 mod faults;
 #[cfg(test)]
+mod log_remains;
+#[cfg(test)]
 mod logs;
 #[cfg(test)]
 mod open_transactions;

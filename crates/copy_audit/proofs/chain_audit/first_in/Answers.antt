@@ -7,8 +7,8 @@ use Rattle.std.proofs.lemmas.Result.{err_from_is_err_and}
 use Rattle.page_core.specs.PageCounts.{PageCounts, last_count}
 use Rattle.page_core.specs.declared.page.Page.{Page}
 use Rattle.log_records.specs.Log.{Log, lsn_of}
-use Rattle.log_changes.specs.Kept.{Kept}
-use Rattle.log_changes.specs.Placed.{Placed}
+use Rattle.loser_undo.specs.Kept.{Kept}
+use Rattle.page_redo.specs.Placed.{Placed}
 use Rattle.copy_archives.specs.ChainEach.{IsReadingEach, place_list}
 use Rattle.copy_archives.specs.ChainReading.{IsStopped}
 use Rattle.copy_audit.specs.Changes.{AreChangesOf, IsKeptOf}

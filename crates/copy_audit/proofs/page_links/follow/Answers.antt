@@ -2,7 +2,7 @@ use Rattle.std.proofs.Common.{◌≡◌, ◌∙◌, [], ◌∷◌, ◌++◌, Lis
 use Rattle.std.specs.Prelude.{Some, None, slice_get}
 use Rattle.std.proofs.lemmas.Bool.{ltb-false, ltb-true}
 use Rattle.std.proofs.lemmas.Option.{slice_get_past, slice_get_read}
-use Rattle.log_changes.specs.Placed.{Placed}
+use Rattle.page_redo.specs.Placed.{Placed}
 use Rattle.copy_audit.specs.Links.{at_places, linked_from}
 use Rattle.copy_audit.proofs.Linked.{at_more, at_none, from_end, from_more}
 use Rattle.copy_audit.proofs.page_links.follow.Goals as goal

@@ -4,7 +4,7 @@ use Rattle.page_core.specs.declared.page.Page.{Page}
 use Rattle.log_records.specs.Coverage.{resume}
 use Rattle.log_records.specs.Image.{image_from}
 use Rattle.loser_undo.specs.Recovery.{appended}
-use Rattle.log_changes.specs.Kept.{Kept}
+use Rattle.loser_undo.specs.Kept.{Kept}
 use Rattle.media_restore.proofs.Undoing.{to_undo, total}
 use Rattle.media_restore.proofs.files.recovered.Goals as goal
 

@@ -1,6 +1,6 @@
 use Rattle.std.proofs.Common.{◌≡◌, ◌∙◌, [], ap, sym, subst}
 use Rattle.log_records.specs.Log.{IsLog, Log}
-use Rattle.log_changes.specs.Kept.{kept_of}
+use Rattle.loser_undo.specs.Kept.{kept_of}
 use Rattle.media_restore.proofs.files_log.changes_of.Goals as goal
 
 pub take-requires : goal.take-requires

@@ -2,7 +2,7 @@ use Rattle.std.proofs.Common.{◌∙◌, ap, map, refl, subst, ℕ}
 use Rattle.std.proofs.lemmas.Result.{err_from_is_err_and}
 use Rattle.log_records.specs.Log.{lsn_of}
 use Rattle.log_store.specs.declared.fault.LogReadFault.TheVariants as log
-use Rattle.log_changes.specs.Kept.{Kept}
+use Rattle.loser_undo.specs.Kept.{Kept}
 use Rattle.page_core.specs.PageCounts.{PageCounts}
 use Rattle.copy_archives.specs.ChainReading.{AreNoChain, IsChainRead}
 use Rattle.media_restore.specs.Files.{Files, of_the_archives, of_the_master}

@@ -5,7 +5,7 @@ use Rattle.std.proofs.lemmas.List.{length-append, length-take, length-drop}
 use Rattle.std.specs.List.{flat_map}
 use Rattle.log_records.specs.Record.{record_bytes}
 use Rattle.page_core.proofs.Public.{into}
-use Rattle.volume_output.proofs.Public.{group, further, whole}
+use Rattle.page_redo.proofs.Public.{group, further, whole}
 use Rattle.media_restore.proofs.log_output.write_records.Goals as goal
 
 pub returns-in-Err-clause-within : goal.returns-in-Err-clause-within

@@ -1,6 +1,6 @@
 use Rattle.std.proofs.Common.{◌∙◌, ◌<◌, length, arith}
 use Rattle.page_core.specs.declared.change.Change.TheVariants.{Add}
-use Rattle.log_changes.specs.Placed.{Placed}
+use Rattle.page_redo.specs.Placed.{Placed}
 use Rattle.copy_audit.proofs.OnPage.{change_is, same_length}
 use Rattle.copy_audit.proofs.Traces.{reach_of}
 use Rattle.copy_audit.proofs.trace.Trace.reach.Goals as goal

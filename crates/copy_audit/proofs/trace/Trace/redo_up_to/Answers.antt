@@ -6,7 +6,7 @@ use Rattle.page_core.specs.declared.page.Page.{Page}
 use Rattle.page_core.specs.Page.{formatted, put}
 use Rattle.log_records.specs.declared.record.Record.TheVariants.{Begin}
 use Rattle.log_records.proofs.Public.{number-image}
-use Rattle.log_changes.specs.Placed.{Placed}
+use Rattle.page_redo.specs.Placed.{Placed}
 use Rattle.page_redo.specs.PageRecords.{numbers_on}
 use Rattle.log_store.specs.PageHistory.{records_at}
 use Rattle.copy_audit.proofs.OnPage.{change_is, same_length}

@@ -2,7 +2,7 @@ use Rattle.std.proofs.Common.{◌≡◌, ◌-◌, ◌/◌, ◌<◌, ◌≤◌, �
 use Rattle.page_core.specs.Page.{formatted}
 use Rattle.log_records.specs.declared.record.Record.{Record}
 use Rattle.log_records.specs.Image.{image_from}
-use Rattle.log_changes.specs.Placed.{Placed}
+use Rattle.page_redo.specs.Placed.{Placed}
 use Rattle.page_redo.specs.PageRecords.{numbers_on}
 use Rattle.log_store.specs.PageHistory.{records_at}
 use Rattle.copy_audit.specs.Changes.{AreChangesOf}

@@ -1,4 +1,0 @@
-pub mod Completed
-pub mod Keeping
-pub mod Pieces
-pub mod Rising

@@ -1,0 +1,43 @@
+-- A database that is opened again.
+use Rattle.std.proofs.Common.{◌≡◌, List, [], ap, length, subst, sym, ◌∙◌}
+use Rattle.page_core.specs.declared.page.Page.{Page}
+use Rattle.page_core.specs.Volume.{AreNumbered}
+use Rattle.log_records.specs.Log.{IsLog, IsPageCount, Log, page_count}
+use Rattle.log_records.proofs.Public.{length-redo_all, numbered-redo_all}
+use Rattle.log_records.proofs.Public.{page_count-is_count}
+use Rattle.loser_undo.proofs.Public.{undone_count}
+use Rattle.engine_restart.specs.Lives.{GoesOnFrom}
+use Rattle.engine_restart.specs.Restart.{IsRestarted, RestartedView, undone_log}
+use Rattle.engine_rules.specs.EngineState.{EngineState}
+use Rattle.open_database.specs.Copies.{TakesUp}
+use Rattle.open_database.specs.Opened.{GoesOnWith}
+use Rattle.open_database.specs.declared.found_copies.CopyFile.{CopyFile}
+
+-- a log counts as many pages once what was open is taken back
+pub is_counted : (log now : Log) → IsLog log → now ≡ undone_log log → IsPageCount (page_count now)
+is_counted log now valid is =
+    let count : page_count now ≡ page_count log = ap page_count is ∙ sym (undone_count log) in
+    subst IsPageCount (sym count) (page_count-is_count log valid)
+
+pub are_counted : (it : RestartedView) → IsRestarted it → IsPageCount (page_count it.log)
+    → IsPageCount (length it.pages)
+are_counted it is counted =
+    let long : length it.pages ≡ page_count it.log =
+    ap (length {A = Page}) is.pages ∙ length-redo_all it.log.records (page_count it.log) in
+    subst IsPageCount (sym long) counted
+
+pub are_numbered : (it : RestartedView) → IsRestarted it → AreNumbered it.pages
+are_numbered it is = subst AreNumbered (sym is.pages) (numbered-redo_all it.log.records (page_count it.log))
+
+pub goes_on_with : (log : Log) (files : List CopyFile) (begun last : RestartedView) (engine : EngineState)
+    → begun.log ≡ undone_log log → begun.copies ≡ [] → last.log ≡ begun.log → TakesUp begun files last
+    → GoesOnFrom last.log engine → engine.copies ≡ last.copies → GoesOnWith log files engine
+goes_on_with log files begun last engine log_is no_copy same taken goes_on copies = record {
+  goes_on = subst (λ (l : Log). GoesOnFrom l engine) (same ∙ log_is) goes_on;
+  begun = begun;
+  last = last;
+  log_is = log_is;
+  no_copy = no_copy;
+  taken = taken;
+  copies = copies;
+}

@@ -1,0 +1,31 @@
+-- A log of which nobody knows that it was longer.
+use Rattle.std.proofs.Common.{◌≡◌, ◌<◌, ◌≤◌, ℕ, List, [], subst, ◌∙◌}
+use Rattle.std.specs.Prelude.{Option, IfSome}
+use Rattle.std.specs.List.{All}
+use Rattle.log_front.specs.Remains.{WasForced}
+use Rattle.log_store.specs.declared.master.Master.{Master}
+use Rattle.open_database.specs.Evidence.{Hears, IsFileWithin, IsWhole}
+use Rattle.open_database.specs.declared.closed_note.ClosedNote.{ClosedNote}
+use Rattle.open_database.specs.declared.evidence.Claim.{Claim}
+use Rattle.open_database.specs.declared.found_copies.CopyFile.{CopyFile}
+
+-- each of them was heard, of the same end, and none of their claims is missed
+pub heard_all : (end e0 e1 e2 e3 : ℕ) (c0 c1 c2 c3 c4 : List Claim) (note : Option ClosedNote)
+    (master : Option Master) (copies : List CopyFile) (bytes : List ℕ)
+    → e0 ≡ end → e1 ≡ e0 → e2 ≡ e1 → e3 ≡ e2
+    → Hears c0 c1 (IfSome note (λ it. it.end ≤ e0))
+    → Hears c1 c2 (IfSome master (λ it. it.end < e1))
+    → Hears c2 c3 (All (IsFileWithin e2) copies)
+    → Hears c3 c4 ((at : ℕ) → e3 ≤ at → ¬ WasForced bytes at)
+    → c4 ≡ [] → IsWhole end note master copies bytes
+heard_all end e0 e1 e2 e3 c0 c1 c2 c3 c4 note master copies bytes at0 at1 at2 at3 notes masters files behind none =
+    let fourth = behind none in
+    let third = files fourth.0 in
+    let second = masters third.0 in
+    let first = notes second.0 in
+    record {
+      closed = subst (λ e. IfSome note (λ it. it.end ≤ e)) at0 first.1;
+      named = subst (λ e. IfSome master (λ it. it.end < e)) (at1 ∙ at0) second.1;
+      copied = subst (λ e. All (IsFileWithin e) copies) (at2 ∙ at1 ∙ at0) third.1;
+      behind = subst (λ e. (at : ℕ) → e ≤ at → ¬ WasForced bytes at) (at3 ∙ at2 ∙ at1 ∙ at0) fourth.1;
+    }

@@ -1,0 +1,11 @@
+use Rattle.std.proofs.Common.{◌≡◌}
+use Rattle.open_database.specs.Copies.{TakesUp, ids_unread}
+use Rattle.open_database.proofs.copies.take_up.Given as goal
+
+abbrev pub invariant-loop-file : goal.invariant-loop-file
+invariant-loop-file l = record {
+  log : l.restarted.log ≡ l.initial.restarted.log;
+  pages : l.restarted.pages ≡ l.initial.restarted.pages;
+  taken : TakesUp l.initial.restarted l.yielded l.restarted;
+  unread : l.unread.items ≡ ids_unread l.yielded;
+}

@@ -1,0 +1,33 @@
+use Rattle.std.proofs.Common.{◌<◌, ◌≤◌, ℕ, subst, ◌∙◌}
+use Rattle.std.specs.Prelude.{IfSome}
+use Rattle.std.specs.List.{All}
+use Rattle.log_front.specs.Front.{end_of}
+use Rattle.log_front.specs.Remains.{WasForced}
+use Rattle.open_database.specs.Evidence.{Hears, IsFileWithin}
+use Rattle.open_database.specs.Master.{spelled}
+use Rattle.open_database.proofs.Whole.{heard_all}
+use Rattle.open_database.proofs.restarted.loss_of.Goals as goal
+
+pub returns : goal.returns
+returns c =
+    let remains = c.args.remains.now in
+    let e0 = c.new-loss.result.end in
+    let e1 = c.hear_note.new.self.end in
+    let e2 = c.hear_master.new.self.end in
+    let e3 = c.hear_copies.new.self.end in
+    let c0 = c.new-loss.result.claims.items in
+    let c1 = c.hear_note.new.self.claims.items in
+    let c2 = c.hear_master.new.self.claims.items in
+    let c3 = c.hear_copies.new.self.claims.items in
+    let c4 = c.look_behind.new.self.claims.items in
+    heard_all (end_of remains.log.log) e0 e1 e2 e3 c0 c1 c2 c3 c4 remains.others.note (spelled remains.others.master)
+    remains.others.copies.items remains.log.bytes.items
+    (c.new-loss.ensures.end ∙ c.end.ensures)
+    c.hear_note.ensures.end c.hear_master.ensures.end c.hear_copies.ensures.end
+    c.in_ok-hear_note.ensures.heard
+    (subst (λ master. Hears c1 c2 (IfSome master (λ it. it.end < e1))) c.spelled.ensures
+    c.in_ok-hear_master.ensures.heard)
+    (subst (λ files. Hears c2 c3 (All (IsFileWithin e2) files)) c.deref.ensures.value
+    c.in_ok-hear_copies.ensures.heard)
+    (subst (λ bytes. Hears c3 c4 ((at : ℕ) → e3 ≤ at → ¬ WasForced bytes at)) c.deref-2.ensures.value
+    c.in_ok-look_behind.ensures.heard)

@@ -1,0 +1,7 @@
+use Rattle.std.proofs.Common.{◌≡◌}
+use Rattle.open_database.proofs.CopyCalls.{HasPassed}
+use Rattle.open_database.proofs.session.Session.begin_copy.Given as goal
+
+abbrev pub invariant-loop : goal.invariant-loop
+invariant-loop g l = HasPassed l.parent l.initial.self.engine.state l.self.engine.state
+    × (l.self.folder ≡ l.initial.self.folder) × (l.self.unread ≡ l.initial.self.unread)

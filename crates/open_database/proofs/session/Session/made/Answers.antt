@@ -1,0 +1,23 @@
+use Rattle.std.proofs.Common.{subst, sym}
+use Rattle.engine_calls.specs.declared.event.Event.{Event}
+use Rattle.open_database.proofs.Served.{made_end, made_plain, made_seal}
+use Rattle.open_database.specs.Calls.{Makes}
+use Rattle.open_database.proofs.session.Session.made.Goals as goal
+
+pub returns-in-Seals-clause-made : goal.returns-in-Seals-clause-made
+returns-in-Seals-clause-made g c =
+    subst (λ (event : Event). Makes event c.args.self.now.engine.state c.seal.result c.seal.new.self.engine.state)
+    (sym c.in-Seals.ensures.kind)
+    (made_seal c.in-Seals.id c.args.self.now.engine.state c.seal.new.self.engine.state c.seal.result c.seal.ensures.says)
+
+pub returns-in-EndsCheckpoint-clause-made : goal.returns-in-EndsCheckpoint-clause-made
+returns-in-EndsCheckpoint-clause-made g c =
+    subst (λ (event : Event). Makes event c.args.self.now.engine.state c.end_checkpoint.result
+    c.end_checkpoint.new.self.engine.state) (sym c.in-EndsCheckpoint.ensures.kind)
+    (made_end c.args.self.now.engine.state c.end_checkpoint.new.self.engine.state c.end_checkpoint.result
+    c.end_checkpoint.ensures.says)
+
+pub returns-in-Plain-clause-made : goal.returns-in-Plain-clause-made
+returns-in-Plain-clause-made g c =
+    made_plain c.args.event c.args.self.now.engine.state c.apply.new.self.state c.apply.result
+    c.in-Plain.ensures.kind c.in-Plain.ensures.fits c.apply.ensures.step

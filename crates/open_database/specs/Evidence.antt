@@ -1,0 +1,57 @@
+-- What shows that a log was longer once.
+use Rattle.std.specs.Prelude.{ℕ, ◌≡◌, ◌<◌, ◌≤◌, List, [], length, Option, IfSome}
+use Rattle.std.specs.List.{All}
+use Rattle.image_copies.specs.Copy.{CopyView, PageDecision, decision_at, kept, taken, undecided}
+use Rattle.log_front.specs.Remains.{WasForced}
+use Rattle.log_store.specs.declared.master.Master.{Master}
+use Rattle.open_database.specs.declared.closed_note.ClosedNote.{ClosedNote}
+use Rattle.open_database.specs.declared.evidence.Claim.{Claim}
+use Rattle.open_database.specs.declared.evidence.Witness.{Witness}
+use Rattle.open_database.specs.declared.evidence.Witness.TheVariants as witness
+use Rattle.open_database.specs.declared.found_copies.CopyFile.{CopyFile}
+use Rattle.open_database.specs.declared.found_copies.FoundCopy.{FoundCopy}
+use Rattle.open_database.specs.declared.found_copies.FoundCopy.TheVariants as found
+
+-- a log that ends here lacks what a witness knows to have been forced: bytes before the place where
+-- the log ended, or the record at the place
+abbrev pub Misses : ℕ → Witness → ℕ → Type 0
+Misses end witness.Closed at = end < at
+Misses end witness.Master at = end ≤ at
+Misses end (witness.Begin copy) at = end ≤ at
+Misses end (witness.Page copy page) at = end ≤ at
+Misses end witness.Record at = end ≤ at
+
+abbrev pub IsMissed : Claim → ℕ → Type 0
+IsMissed claim end = Misses end claim.witness claim.at
+
+-- a copy has no page with a change at the log's end or past it
+abbrev pub KnowsBelow : ℕ → PageDecision → Type 0
+KnowsBelow end undecided = Unit {0}
+KnowsBelow end (taken page) = page.lsn < end
+KnowsBelow end kept = Unit {0}
+
+-- a copy began in the log, and knows of nothing past its end
+pub record IsWithin (end : ℕ) (copy : CopyView) : Type 0 where
+  pub begin : copy.begin < end
+  pub pages : (p : ℕ) → p < length copy.pages → KnowsBelow end (decision_at copy.pages p)
+
+-- so does what stands under the name of a copy, if it spells one
+abbrev pub IsFoundWithin : ℕ → FoundCopy → Type 0
+IsFoundWithin end (found.Whole copy) = IsWithin end copy
+IsFoundWithin end (found.Wrong why) = Unit {0}
+IsFoundWithin end (found.Unread why) = Unit {0}
+
+abbrev pub IsFileWithin : ℕ → CopyFile → Type 0
+IsFileWithin end file = IsFoundWithin end file.found
+
+-- nothing that was found knows of a forced record that a log which ends here lacks
+pub record IsWhole (end : ℕ) (note : Option ClosedNote) (master : Option Master)
+    (copies : List CopyFile) (bytes : List ℕ) : Type 0 where
+  pub closed : IfSome note (λ it. it.end ≤ end)
+  pub named : IfSome master (λ it. it.end < end)
+  pub copied : All (IsFileWithin end) copies
+  pub behind : (at : ℕ) → end ≤ at → ¬ WasForced bytes at
+
+-- where no claim is missed now, none was before, and this holds
+abbrev pub Hears : List Claim → List Claim → Type 0 → Type 0
+Hears old new holds = new ≡ [] → (old ≡ []) × holds

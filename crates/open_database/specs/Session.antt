@@ -1,0 +1,151 @@
+-- The lines of an open database, and what is written of them.
+use Rattle.std.specs.Prelude.{ℕ, ◌≡◌, ◌<◌, List, [], ◌∷◌, ◌++◌, Option, Some, None, length, take}
+use Rattle.std.specs.Prelude.{Result, Ok, Err, codes}
+use Rattle.std.specs.Fmt.{decimal}
+use Rattle.std.specs.Io.KnownBytes.{Appends, Keeps}
+use Rattle.std.specs.List.{All}
+use Rattle.engine_calls.specs.EventFits.{EventFits}
+use Rattle.engine_calls.specs.declared.event.Answer.{Answer}
+use Rattle.engine_calls.specs.declared.event.Event.{Event}
+use Rattle.engine_calls.specs.declared.refusal.Refusal.{Refusal}
+use Rattle.engine_rules.specs.EngineState.{EngineState}
+use Rattle.engine_rules.specs.Run.{Run}
+use Rattle.event_script.specs.Script.{said_in}
+use Rattle.event_script.specs.Words.{lines_of}
+use Rattle.saved_files.specs.Folder.{Entries}
+use Rattle.open_database.specs.Calls.{IsAnyReply, IsOfClosing, Makes, RunsBy, SaysOf}
+use Rattle.open_database.specs.MadeFiles.{IsInPlace, IsStoredFor}
+use Rattle.open_database.specs.Said.{said_line}
+use Rattle.open_database.specs.declared.bad_call.LineTrouble.{LineTrouble}
+use Rattle.open_database.specs.declared.said.Said.{Said}
+use Rattle.open_database.specs.declared.session.ServeFault.{ServeFault}
+use Rattle.open_database.specs.declared.session.ServeFault.TheVariants.{OutOfMemory, ReadFault}
+use Rattle.open_database.specs.declared.session.ServeFault.TheVariants.{WriteFault}
+
+-- ---- one line
+
+-- the first of some events
+abbrev pub first_of : List Event → Option Event
+first_of [] = None
+first_of (event ∷ events) = Some event
+
+-- a line, read as a script, says this call, or nothing
+pub record Says (line : List ℕ) (event : Option Event) : Type 0 where
+  pub events : List Event
+  pub read : said_in (lines_of line) ≡ Some (events, None)
+  pub first : event ≡ first_of events
+
+-- what is written of a line that is no call, by its number and for this reason
+abbrev pub bad_line : ℕ → List ℕ → List ℕ
+bad_line number why = codes "bad line " ++ (decimal number ++ (codes ": " ++ (why ++ 10 ∷ [])))
+
+-- nothing of a line was written, for want of memory, or just so many of its first bytes
+abbrev pub LeavesLine : Option (List ℕ) → Option (List ℕ) → List ℕ → ServeFault → Type 0
+LeavesLine old new line OutOfMemory = Keeps old new
+LeavesLine old new line ReadFault = ⊥
+LeavesLine old new line (WriteFault done) =
+    (done < length line) × Appends old new (take done line)
+
+-- a line that is no call has its answer
+abbrev pub WritesBad : ℕ → Option (List ℕ) → Option (List ℕ) → Type 0
+WritesBad number before after = (why : List ℕ) × Appends before after (bad_line number why)
+
+-- its answer was not written, or not all of it
+abbrev pub LeavesBad : ℕ → Option (List ℕ) → Option (List ℕ) → ServeFault → Type 0
+LeavesBad number before after fault =
+    (why : List ℕ) × LeavesLine before after (bad_line number why) fault
+
+-- the engine made the call of a line, and then the line of what is said of it was written; where
+-- that tells of a file, the file was in place before
+pub record Answers (event : Event) (old new : EngineState) (entries : Option Entries)
+    (is_stored : Type 0) (before after : Option (List ℕ)) : Type 0 where
+  pub said : Said
+  pub made : Makes event old said new
+  pub in_place : IsInPlace event said new entries
+  pub stored : IsStoredFor event said is_stored
+  pub written : Appends before after (said_line said)
+
+-- the same, but that line was not written, or not all of it
+pub record LeavesAnswer (event : Event) (old new : EngineState) (entries : Option Entries)
+    (is_stored : Type 0) (before after : Option (List ℕ)) (fault : ServeFault) : Type 0 where
+  pub said : Said
+  pub made : Makes event old said new
+  pub in_place : IsInPlace event said new entries
+  pub stored : IsStoredFor event said is_stored
+  pub left : LeavesLine before after (said_line said) fault
+
+-- the line of this number was taken: its call was answered; or it says nothing, and nothing was
+-- done; or it is no call, which was written, and the engine was not called
+abbrev pub Takes : ℕ → Result (Option Event) LineTrouble → EngineState → EngineState
+    → Option Entries → Type 0 → Option (List ℕ) → Option (List ℕ) → Type 0
+Takes number (Ok None) old new entries is_stored before after = (new ≡ old) × (after ≡ before)
+Takes number (Ok (Some event)) old new entries is_stored before after =
+    Answers event old new entries is_stored before after
+Takes number (Err why) old new entries is_stored before after =
+    (new ≡ old) × WritesBad number before after
+
+-- the same, but its answer was not written, or not all of it
+abbrev pub LeavesTaken : ℕ → Result (Option Event) LineTrouble → EngineState → EngineState
+    → Option Entries → Type 0 → Option (List ℕ) → Option (List ℕ) → ServeFault → Type 0
+LeavesTaken number (Ok None) old new entries is_stored before after fault = ⊥
+LeavesTaken number (Ok (Some event)) old new entries is_stored before after fault =
+    LeavesAnswer event old new entries is_stored before after fault
+LeavesTaken number (Err why) old new entries is_stored before after fault =
+    (new ≡ old) × LeavesBad number before after fault
+
+-- ---- all lines
+
+-- lines were taken one after another, and these calls of the engine were made for them, with these
+-- replies: of each call that a line says, what is said of its replies was written, and of each line
+-- that is none, that it is none
+pub data Tells (before : Option (List ℕ))
+    : List Event → List (Result Answer Refusal) → Option (List ℕ) → Type 0 where
+  nothing_told : Tells before [] [] before
+  call_told : (events made : List Event) (replies given : List (Result Answer Refusal))
+      (text after : Option (List ℕ)) (line : List ℕ) (event : Event) (said : Said)
+      → Tells before events replies text → Says line (Some event) → SaysOf event made given said
+      → Appends text after (said_line said)
+      → Tells before (events ++ made) (replies ++ given) after
+  bad_told : (events : List Event) (replies : List (Result Answer Refusal))
+      (text after : Option (List ℕ)) (number : ℕ)
+      → Tells before events replies text → WritesBad number text after
+      → Tells before events replies after
+
+-- the engine ran by the calls of the lines that were taken, and its replies were told
+pub record Serves (old new : EngineState) (before after : Option (List ℕ)) : Type 0 where
+  pub events : List Event
+  pub replies : List (Result Answer Refusal)
+  pub fit : All EventFits events
+  pub run : Run old events replies new
+  pub told : Tells before events replies after
+
+-- how the last line was left: it was not read, or not taken for want of memory; its call was made,
+-- and not told; or it is no call, and that was not told
+pub data LeavesLast (old new : EngineState) (before after : Option (List ℕ)) (fault : ServeFault)
+    : Type 0 where
+  not_taken : new ≡ old → after ≡ before → LeavesLast old new before after fault
+  not_told : (event : Event) (said : Said) → Makes event old said new
+      → LeavesLine before after (said_line said) fault → LeavesLast old new before after fault
+  bad_not_told : (number : ℕ) → new ≡ old → LeavesBad number before after fault
+      → LeavesLast old new before after fault
+
+-- lines were taken, and then one was left
+pub record LeavesServed (old new : EngineState) (before after : Option (List ℕ))
+    (fault : ServeFault) : Type 0 where
+  pub engine : EngineState
+  pub written : Option (List ℕ)
+  pub served : Serves old engine before written
+  pub last : LeavesLast engine new written after fault
+
+-- lines were taken to the end, or up to one that was left
+pub data ServesLines (old new : EngineState) : Type 0 where
+  all_served : (before after : Option (List ℕ)) → Serves old new before after → ServesLines old new
+  one_left : (before after : Option (List ℕ)) (fault : ServeFault)
+      → LeavesServed old new before after fault → ServesLines old new
+
+-- an engine ran by the calls of such lines, and then the log was forced and pages were written; no
+-- other call was made
+pub record LivesByLines (old new : EngineState) : Type 0 where
+  pub end : EngineState
+  pub served : ServesLines old end
+  pub closed : RunsBy IsOfClosing IsAnyReply end new

@@ -1,0 +1,119 @@
+//! The copies that stand in a folder are taken up.
+
+ghost use Rattle.std.specs.Prelude.{◌≡◌, ◌↔◌, ◌++◌, IfErr, IfOk, IsTrue, OnErr, OnOk};
+ghost use Rattle.copy_vault.specs.Added.{with_copy};
+ghost use Rattle.engine_restart.specs.Added.{IsNotAdded, MayAdd};
+ghost use Rattle.open_database.specs.Copies.{IsHeard, IsJudged, IsOfMemory, TakesUp, id_unread};
+ghost use Rattle.open_database.specs.Copies.{ids_unread};
+
+use crate::copy_trouble::CopyTrouble;
+use crate::found_copies::{CopyFile, FoundCopy};
+use crate::place::Place;
+use crate::told::Teller;
+use copy_vault::{AddFault, CompleteCopy, CopyId};
+use engine_restart::{AddCopyFault, Restarted};
+use std::alloc::{AllocError, Global};
+
+/// Takes up these copies, whose ids rise, each once it is audited against the log. Why one is not is
+/// told, and its file stays where it is. Answers the ids of those that could not be read: they are
+/// not given again.
+pub(crate) fn take_up(
+    teller: &Teller<'_>,
+    restarted: &mut Restarted,
+    copies: Vec<CopyFile>,
+) -> Result<Vec<u32>, AllocError>
+    ensures log { restarted.new.log ≡ restarted.old.log }
+    ensures pages { restarted.new.pages ≡ restarted.old.pages }
+    ensures taken { OnOk result (TakesUp restarted.old copies.items restarted.new) }
+    ensures unread { IfOk result (λ ids. ids.items ≡ ids_unread copies.items) }
+{
+    let mut unread = Vec::new(teller.rt.alloc());
+    for file in copies {
+        take_file(teller, restarted, file, &mut unread)?;
+    }
+    Ok(unread)
+}
+
+/// The same of one file.
+fn take_file(
+    teller: &Teller<'_>,
+    restarted: &mut Restarted,
+    file: CopyFile,
+    unread: &mut Vec<u32>,
+) -> Result<(), AllocError>
+    ensures log { restarted.new.log ≡ restarted.old.log }
+    ensures pages { restarted.new.pages ≡ restarted.old.pages }
+    ensures heard { OnOk result (IsHeard file.id file.found restarted.old restarted.new) }
+    ensures unread { OnOk result
+        (unread.new.items ≡ unread.old.items ++ id_unread file.id file.found) }
+{
+    let CopyFile { id, found } = file;
+    match found {
+        FoundCopy::Whole(copy) => take_one(teller, restarted, id, copy),
+        FoundCopy::Wrong(why) => {
+            teller.tell(Place::Copy(id), &why);
+            Ok(())
+        }
+        FoundCopy::Unread(why) => {
+            unread.push(id.0)?;
+            teller.tell(Place::Copy(id), &why);
+            Ok(())
+        }
+    }
+}
+
+/// Takes up a copy, or tells why not.
+fn take_one(
+    teller: &Teller<'_>,
+    restarted: &mut Restarted,
+    id: CopyId,
+    copy: CompleteCopy,
+) -> Result<(), AllocError>
+    ensures log { restarted.new.log ≡ restarted.old.log }
+    ensures pages { restarted.new.pages ≡ restarted.old.pages }
+    ensures judged { OnOk result (IsJudged id copy restarted.old restarted.new) }
+    ensures failed { OnErr result (restarted.new.copies ≡ restarted.old.copies) }
+{
+    if copy.id() != id {
+        teller.tell(Place::Copy(id), &CopyTrouble::OtherId(copy.id()));
+        return Ok(());
+    }
+    match added(teller.rt.alloc(), restarted, copy) {
+        Ok(()) => Ok(()),
+        Err(fault) => {
+            if is_of_memory(&fault) {
+                return Err(AllocError);
+            }
+            teller.tell(Place::Copy(id), &CopyTrouble::Add(fault));
+            Ok(())
+        }
+    }
+}
+
+/// Takes up a copy. One that is not taken up is dropped.
+fn added(alloc: Global, restarted: &mut Restarted, copy: CompleteCopy) -> Result<(), AddCopyFault>
+    ensures log { restarted.new.log ≡ restarted.old.log }
+    ensures pages { restarted.new.pages ≡ restarted.old.pages }
+    ensures may { OnOk result (MayAdd restarted.old.log restarted.old.copies copy) }
+    ensures added { OnOk result (restarted.new.copies ≡ with_copy restarted.old.copies copy) }
+    ensures why { IfErr result (IsNotAdded restarted.old.log restarted.old.copies copy) }
+    ensures same { OnErr result (restarted.new.copies ≡ restarted.old.copies) }
+{
+    match restarted.add(alloc, copy) {
+        Ok(()) => Ok(()),
+        Err((copy, fault)) => {
+            drop(copy);
+            Err(fault)
+        }
+    }
+}
+
+/// Whether memory ran out.
+fn is_of_memory(fault: &AddCopyFault) -> bool
+    ensures { IsTrue result ↔ IsOfMemory fault.now }
+{
+    match fault {
+        AddCopyFault::OutOfMemory | AddCopyFault::Refused(AddFault::OutOfMemory) => true,
+        AddCopyFault::OfOtherLog | AddCopyFault::Unsound(_) | AddCopyFault::Refused(_) => false,
+    }
+}

@@ -1,0 +1,154 @@
+//! The clean end of an open database.
+
+ghost use Rattle.std.specs.Prelude.{◌≡◌, OnOk};
+ghost use Rattle.std.specs.Io.KnownBytes.{Appends};
+ghost use Rattle.saved_files.specs.PutFault.{bytes_by};
+ghost use Rattle.open_database.specs.Calls.{IsAnyReply, IsNoFault, IsOfClosing, RunsBy};
+ghost use Rattle.open_database.specs.Closed.{IsClosed, note_of};
+ghost use Rattle.open_database.specs.MadeFiles.{WasPut};
+
+use crate::closed_note::ClosedNote;
+use crate::names::CLOSED;
+use crate::place::Place;
+use crate::session::{Session, TellsWhy};
+use aries_core::Refusal;
+use log_records::DirtyPages;
+use log_store::LogDevice;
+use page_core::{Lsn, MAX_PAGES, PageNo};
+use page_store::PageStore;
+use saved_files::{FileFault, Folder, PutFault, put_in_place};
+
+impl<F: Folder, S: PageStore, D: LogDevice + TellsWhy> Session<'_, F, S, D> {
+    /// Forces the log, writes each dirty page, and notes where the log ends. What fails is told, and
+    /// then nothing is noted.
+    pub(crate) fn close(&mut self)
+        requires { F.is_claimed self.old.folder }
+        ensures ran { RunsBy IsOfClosing IsAnyReply self.old.engine.state self.new.engine.state }
+        // The folder is left alone, but where no file failed, and all of the log is forced.
+        ensures noted { IsClosed self.old.engine.state self.new.engine.state
+            (self.new.folder ≡ self.old.folder) }
+    {
+        if let Err(why) = self.settle() {
+            self.tell_unclosed(why);
+            return;
+        }
+        let end = self.engine.log_end();
+        if self.engine.log().forced_end() != end {
+            return;
+        }
+        if let Err(fault) = self.note_end(end) {
+            self.has_failed = true;
+            self.teller.tell_unkept(Place::Closed, fault, self.notes);
+        }
+    }
+
+    /// Forces the log, and writes each dirty page.
+    fn settle(&mut self) -> Result<(), Refusal>
+        ensures ran { RunsBy IsOfClosing IsAnyReply self.old.engine.state self.new.engine.state }
+        ensures well { OnOk result
+            (RunsBy IsOfClosing IsNoFault self.old.engine.state self.new.engine.state) }
+        ensures folder { self.new.folder ≡ self.old.folder }
+    {
+        self.engine.force()?;
+        self.write_pages()
+    }
+
+    fn tell_unclosed(&mut self, why: Refusal)
+        ensures engine { self.new.engine ≡ self.old.engine }
+        ensures folder { self.new.folder ≡ self.old.folder }
+    {
+        let said = crate::said::Said::Reply(Err(why));
+        self.has_failed = true;
+        self.tell_fault(&said);
+    }
+
+    /// Writes each dirty page.
+    fn write_pages(&mut self) -> Result<(), Refusal>
+        ensures ran { RunsBy IsOfClosing IsAnyReply self.old.engine.state self.new.engine.state }
+        ensures well { OnOk result
+            (RunsBy IsOfClosing IsNoFault self.old.engine.state self.new.engine.state) }
+        ensures folder { self.new.folder ≡ self.old.folder }
+    {
+        let mut cursor = PageNo(0);
+        for _ in 0..=MAX_PAGES {
+            let Some(pages) = self.engine.dirty_from(cursor) else {
+                return Ok(());
+            };
+            let page = first_of(&pages);
+            self.write_page(page)?;
+            cursor = PageNo(page.0.saturating_add(1));
+        }
+        Ok(())
+    }
+
+    /// Ends the write of a page that is in progress, and writes what is newer.
+    fn write_page(&mut self, page: PageNo) -> Result<(), Refusal>
+        ensures ran { RunsBy IsOfClosing IsAnyReply self.old.engine.state self.new.engine.state }
+        ensures well { OnOk result
+            (RunsBy IsOfClosing IsNoFault self.old.engine.state self.new.engine.state) }
+        ensures folder { self.new.folder ≡ self.old.folder }
+    {
+        self.end_write(page)?;
+        self.begin_write(page)?;
+        self.end_write(page)
+    }
+
+    /// Ends the write of a page, if one is in progress.
+    fn end_write(&mut self, page: PageNo) -> Result<(), Refusal>
+        ensures ran { RunsBy IsOfClosing IsAnyReply self.old.engine.state self.new.engine.state }
+        ensures well { OnOk result
+            (RunsBy IsOfClosing IsNoFault self.old.engine.state self.new.engine.state) }
+        ensures folder { self.new.folder ≡ self.old.folder }
+    {
+        match self.engine.write_end(page) {
+            Ok(_) => Ok(()),
+            Err(Refusal::NoWrite) => Ok(()),
+            Err(why) => Err(why),
+        }
+    }
+
+    /// Begins to write a page, if it is dirty.
+    fn begin_write(&mut self, page: PageNo) -> Result<(), Refusal>
+        ensures ran { RunsBy IsOfClosing IsAnyReply self.old.engine.state self.new.engine.state }
+        ensures well { OnOk result
+            (RunsBy IsOfClosing IsNoFault self.old.engine.state self.new.engine.state) }
+        ensures folder { self.new.folder ≡ self.old.folder }
+    {
+        match self.engine.write_begin(page) {
+            Ok(_) => Ok(()),
+            Err(Refusal::NotDirty) => Ok(()),
+            Err(why) => Err(why),
+        }
+    }
+
+    /// Notes where the log ends, which is all forced.
+    fn note_end(&mut self, end: Lsn) -> Result<(), FileFault>
+        requires claimed { F.is_claimed self.old.folder }
+        requires forced { end ≡ self.old.engine.state.forced_end }
+        ensures put { OnOk result (WasPut CLOSED.now
+            (bytes_by (λ old new. Appends old new (note_of end))) (F.entries self.new.folder)) }
+        ensures stored { OnOk result (F.is_stored self.new.folder) }
+        ensures engine { self.new.engine ≡ self.old.engine }
+    {
+        let mut note = ClosedNote { end };
+        match put_in_place(&mut self.folder, self.alloc, CLOSED, &mut note) {
+            Ok(()) => {}
+            Err(PutFault::Unmade(why) | PutFault::Unwritten(why) | PutFault::Unplaced(why)) => {
+                return Err(why);
+            }
+        }
+        match self.folder.sync_names() {
+            Ok(()) => Ok(()),
+            Err(_) => Err(FileFault::WriteFault(0)),
+        }
+    }
+}
+
+/// The first of some dirty pages.
+fn first_of(pages: &DirtyPages) -> PageNo {
+    match pages {
+        DirtyPages::One(first) | DirtyPages::Two(first, _) | DirtyPages::Three(first, _, _) => {
+            PageNo(first.page)
+        }
+    }
+}

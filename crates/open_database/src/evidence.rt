@@ -1,0 +1,176 @@
+//! What shows that a log was longer once than its file's front is now.
+
+ghost use Rattle.std.specs.Prelude.{◌↔◌, IsTrue};
+ghost use Rattle.open_database.specs.Evidence.{IsMissed};
+
+use crate::closed_note::ClosedNote;
+use crate::found_copies::{CopyFile, FoundCopy};
+use copy_vault::{CompleteCopy, CopyId};
+use log_front::{Cut, forced_behind};
+use log_store::Master;
+use page_core::{Lsn, PageNo};
+use std::alloc::{AllocError, Global};
+use std::fmt;
+
+/// What knows of a place in the log that was forced.
+#[derive(Clone, Copy, Debug, PartialEq, Eq)]
+pub(crate) enum Witness {
+    /// The note of the last clean closing: the log ended there.
+    Closed,
+    /// The master record: its checkpoint ended with the record there.
+    Master,
+    /// The copy of this id began at the record there.
+    Begin(CopyId),
+    /// This page of the copy of this id has the change of the record there.
+    Page(CopyId, PageNo),
+    /// A Commit or an EndChkpt stands there, and a record behind it.
+    Record,
+}
+
+impl fmt::Display for Witness {
+    fn fmt<W: fmt::Write>(&self, f: &mut fmt::Formatter<W>) -> fmt::Result {
+        match self {
+            Witness::Closed => f.write_str("`closed` says that the log ended at"),
+            Witness::Master => f.write_str("`master` names the end of a checkpoint at"),
+            Witness::Begin(id) => write!(f, "`copy-{number}` began at", number = id.0),
+            Witness::Page(id, page) => {
+                let (copy, page) = (id.0, page.0);
+                write!(f, "page {page} of `copy-{copy}` has the change at")
+            }
+            Witness::Record => f.write_str("a record that was forced stands at"),
+        }
+    }
+}
+
+/// That the log was forced up to a place.
+#[derive(Clone, Copy, Debug, PartialEq, Eq)]
+pub(crate) struct Claim {
+    pub witness: Witness,
+    /// The LSN of a record that was forced, or where the log ended.
+    pub at: Lsn,
+}
+
+impl Claim {
+    /// Whether a log that ends there lacks something that was forced.
+    pub fn is_missed(&self, end: Lsn) -> bool
+        ensures { IsTrue result ↔ IsMissed self.now end }
+    {
+        match self.witness {
+            Witness::Closed => end < self.at,
+            Witness::Master | Witness::Begin(_) | Witness::Page(_, _) | Witness::Record => {
+                end <= self.at
+            }
+        }
+    }
+}
+
+/// What is known to be missing from a log.
+#[derive(Debug, Drop)]
+pub(crate) struct Loss {
+    /// Where the front of its file ends.
+    pub end: Lsn,
+    /// Why the bytes behind it are left out, if there are such.
+    pub cut: Option<Cut>,
+    /// What knows of more.
+    pub claims: Vec<Claim>,
+}
+
+impl Loss {
+    ghost use Rattle.std.specs.Prelude.{ℕ, ◌≡◌, ◌<◌, ◌≤◌, [], IfSome, OnOk};
+    ghost use Rattle.std.specs.List.{All};
+    ghost use Rattle.log_front.specs.Remains.{WasForced};
+    ghost use Rattle.open_database.specs.Evidence.{Hears, IsFileWithin, IsMissed, IsWithin};
+
+    /// Of a log whose front ends there nothing is known to be missing yet.
+    pub fn new(alloc: Global, end: Lsn, cut: Option<Cut>) -> Loss
+        ensures end { result.end ≡ end }
+        ensures claims { result.claims.items ≡ [] }
+    {
+        Loss {
+            end,
+            cut,
+            claims: Vec::new(alloc),
+        }
+    }
+
+    /// Takes note of a claim, if the log lacks what it says.
+    fn note(&mut self, witness: Witness, at: Lsn) -> Result<(), AllocError>
+        ensures end { self.new.end ≡ self.old.end }
+        ensures heard { OnOk result (Hears self.old.claims.items self.new.claims.items
+            (¬ IsMissed (record { witness = witness; at = at }) self.old.end)) }
+    {
+        let claim = Claim { witness, at };
+        if claim.is_missed(self.end) {
+            self.claims.push(claim)?;
+        }
+        Ok(())
+    }
+
+    /// Hears the note of the last closing.
+    pub fn hear_note(&mut self, note: Option<ClosedNote>) -> Result<(), AllocError>
+        ensures end { self.new.end ≡ self.old.end }
+        ensures heard { OnOk result (Hears self.old.claims.items self.new.claims.items
+            (IfSome note (λ it. it.end ≤ self.old.end))) }
+    {
+        match note {
+            Some(note) => self.note(Witness::Closed, note.end),
+            None => Ok(()),
+        }
+    }
+
+    /// Hears the master record.
+    pub fn hear_master(&mut self, master: Option<Master>) -> Result<(), AllocError>
+        ensures end { self.new.end ≡ self.old.end }
+        ensures heard { OnOk result (Hears self.old.claims.items self.new.claims.items
+            (IfSome master (λ it. it.end < self.old.end))) }
+    {
+        match master {
+            Some(master) => self.note(Witness::Master, master.end),
+            None => Ok(()),
+        }
+    }
+
+    /// Hears the copies that were found.
+    pub fn hear_copies(&mut self, copies: &[CopyFile]) -> Result<(), AllocError>
+        ensures end { self.new.end ≡ self.old.end }
+        ensures heard { OnOk result (Hears self.old.claims.items self.new.claims.items
+            (All (IsFileWithin self.old.end) copies.now)) }
+    {
+        for file in copies {
+            if let FoundCopy::Whole(copy) = &file.found {
+                self.hear_copy(file.id.0, copy)?;
+            }
+        }
+        Ok(())
+    }
+
+    /// Hears the copy that stands under the name of this id: where it began, and the first of its
+    /// pages that knows of more.
+    fn hear_copy(&mut self, id: u32, copy: &CompleteCopy) -> Result<(), AllocError>
+        ensures end { self.new.end ≡ self.old.end }
+        ensures heard { OnOk result (Hears self.old.claims.items self.new.claims.items
+            (IsWithin self.old.end copy.now)) }
+    {
+        self.note(Witness::Begin(CopyId(id)), copy.begin())?;
+        for number in 0..copy.pages() {
+            if let Some(page) = copy.page(PageNo(number))
+                && page.lsn >= self.end
+            {
+                return self.note(Witness::Page(CopyId(id), PageNo(number)), page.lsn);
+            }
+        }
+        Ok(())
+    }
+
+    /// Looks at the bytes of the log's file behind the front.
+    pub fn look_behind(&mut self, bytes: &[u8]) -> Result<(), AllocError>
+        ensures end { self.new.end ≡ self.old.end }
+        ensures heard { OnOk result (Hears self.old.claims.items self.new.claims.items
+            ((at : ℕ) → self.old.end ≤ at → ¬ WasForced bytes.now at)) }
+    {
+        match forced_behind(bytes, self.end) {
+            Some(at) => self.note(Witness::Record, at),
+            None => Ok(()),
+        }
+    }
+}

@@ -1,0 +1,96 @@
+//! The bytes behind a log's front, which are put aside before the log is cut there.
+
+ghost use Rattle.std.specs.Prelude.{◌↔◌, IsTrue, OnOk};
+ghost use Rattle.std.specs.Io.KnownBytes.{Appends};
+ghost use Rattle.saved_files.specs.FileFault.{Leaves};
+ghost use Rattle.open_database.specs.LeftOut.{IsKept, IsWorthKeeping};
+
+use crate::fault::OpenFault;
+use crate::names::LEFT_OUT;
+use crate::place::Place;
+use crate::told::Teller;
+use log_records::RECORD_BYTES;
+use page_core::write_out;
+use saved_files::{FileFault, Folder, PutFault, Source, put_in_place};
+use std::alloc::{AllocError, Global};
+use std::fs;
+use std::io::{ErrorKind, Write};
+use std::path::Path;
+
+/// How many files of bytes that were left out may stand in a folder.
+const MOST_LEFT_OUT: u32 = 1_000;
+
+/// Bytes that stood behind a log.
+#[derive(Drop)]
+struct LeftOut<'a> {
+    bytes: &'a [u8],
+}
+
+impl Source for LeftOut<'_> {
+    type Fault = FileFault;
+
+    ghost gives = { λ it old new. Appends old new it.bytes.now };
+
+    ghost leaves = { λ it fault old new. Leaves it.bytes.now old new fault };
+
+    fn write_to<W: Write>(&mut self, _alloc: Global, writer: &mut W) -> Result<(), FileFault> {
+        match write_out(writer, self.bytes) {
+            Ok(()) => Ok(()),
+            Err(done) => Err(FileFault::WriteFault(done)),
+        }
+    }
+}
+
+/// Whether something may be missed of these bytes: as many as a record has, and not zeros alone.
+fn is_worth_keeping(bytes: &[u8]) -> bool
+    ensures { IsTrue result ↔ IsWorthKeeping bytes.now }
+{
+    bytes.len() >= RECORD_BYTES && bytes.iter().any(|byte| *byte != 0)
+}
+
+/// Keeps the bytes behind a log in a file of their own, `log.left-out-1` or one with the next number
+/// that is free, whole and synced. Zeros, and less than a record, are not kept.
+pub(crate) fn put_aside<F: Folder>(
+    teller: &Teller<'_>,
+    folder: &mut F,
+    bytes: &[u8],
+) -> Result<(), OpenFault>
+    requires { F.is_claimed folder.old }
+    ensures kept { OnOk result (IsWorthKeeping bytes.now
+        → IsKept (F.entries folder.old) bytes.now (F.entries folder.new)) }
+    ensures stored { OnOk result (IsWorthKeeping bytes.now → F.is_stored folder.new) }
+    ensures claimed { F.is_claimed folder.new }
+{
+    if !is_worth_keeping(bytes) {
+        return Ok(());
+    }
+    let name = free_name(teller)?;
+    let mut source = LeftOut { bytes };
+    let put = put_in_place(folder, teller.rt.alloc(), name.as_str(), &mut source);
+    if let Err(PutFault::Unmade(why) | PutFault::Unwritten(why) | PutFault::Unplaced(why)) = put {
+        return Err(OpenFault::NotAside(why));
+    }
+    folder.sync_names().map_err(OpenFault::of_folder)?;
+    let new = name.as_str();
+    teller.tell(Place::Log, &format_args!("they are now {new}"));
+    Ok(())
+}
+
+/// The first name for such bytes that nothing in the folder has.
+fn free_name(teller: &Teller<'_>) -> Result<String, OpenFault> {
+    let alloc = teller.rt.alloc();
+    for number in 1..=MOST_LEFT_OUT {
+        let name = name_of(alloc, number)?;
+        let path = Path::new(teller.folder).join(alloc, name.as_str())?;
+        match fs::symlink_metadata(teller.rt, path.as_path()) {
+            Ok(_) => {}
+            Err(error) if error.kind() == ErrorKind::NotFound => return Ok(name),
+            Err(error) => return Err(OpenFault::of_folder(error)),
+        }
+    }
+    Err(OpenFault::NotAside(FileFault::WriteFault(0)))
+}
+
+fn name_of(alloc: Global, number: u32) -> Result<String, AllocError> {
+    format!(in alloc; "{LEFT_OUT}{number}")
+}

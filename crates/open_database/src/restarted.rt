@@ -1,0 +1,455 @@
+//! A database that is opened again.
+
+ghost use Rattle.std.specs.Prelude.{◌≡◌, ◌≢◌, [], false, IfOk, None, OnOk, length, map};
+ghost use Rattle.buffer_pool.specs.Pool.{IsFrameCount};
+ghost use Rattle.engine_restart.specs.LogFile.{LastsOnFile};
+ghost use Rattle.engine_restart.specs.Restart.{undone_log};
+ghost use Rattle.file_devices.specs.FileLog.{known_of};
+ghost use Rattle.log_front.specs.Front.{IsFrontOf, end_of};
+ghost use Rattle.log_records.specs.Log.{IsLog, IsPageCount, log_bytes, page_count};
+ghost use Rattle.log_rules.specs.Linked.{IsLinked};
+ghost use Rattle.open_database.specs.Copies.{TakesUp, ids_unread};
+ghost use Rattle.saved_files.specs.Folder.{Changes, IsSame};
+ghost use Rattle.open_database.specs.Evidence.{IsWhole};
+ghost use Rattle.open_database.specs.LeftOut.{IsKept, IsWorthKeeping, WasKept, behind};
+ghost use Rattle.open_database.specs.Master.{spelled};
+ghost use Rattle.open_database.specs.Opened.{GoesOnFromFile, GoesOnWith};
+
+use crate::begin::{FileEngine, code_of};
+use crate::closed_note::{ClosedNote, read_note, remove_note};
+use crate::copies::take_up;
+use crate::evidence::{Loss, Witness};
+use crate::fault::OpenFault;
+use crate::first_line::FirstLine;
+use crate::found_copies::{CopyFile, read_copies};
+use crate::found_master::{FoundMaster, read_master};
+use crate::inventory::Inventory;
+use crate::left_out::put_aside;
+use crate::log_file::LogFile;
+use crate::moved_aside::{move_copy_aside, move_master_aside};
+use crate::open::OpenCall;
+use crate::place::Place;
+use crate::told::Teller;
+use crate::told_store::ToldStore;
+use crate::volume_file::{check_volume, volume_of};
+use engine_restart::{FoundLog, Restarted, found_log, restart, store_of};
+use file_devices::FileLog;
+use fuzzy_ckpt::{Point, checkpoints_of};
+use log_records::Record;
+use log_store::LogImage;
+use page_core::Lsn;
+use saved_files::Folder;
+use std::alloc::{AllocError, Global};
+use std::thread::Threads;
+use system_files::Notes;
+
+/// An engine that goes on with a database of an older life.
+#[derive(Drop)]
+pub(crate) struct Reopened<'a> {
+    pub engine: FileEngine<'a>,
+    pub first: FirstLine,
+    /// The last complete checkpoint of its log, where the master record does not name it.
+    pub point: Option<Point>,
+    /// What stands as the master record, if that names no checkpoint of the log.
+    pub is_master_wrong: bool,
+    /// The ids of copies that could not be read. They are not given.
+    pub unread: Vec<u32>,
+}
+
+/// What was found in a folder, before anything is changed there.
+#[derive(Drop)]
+struct Remains {
+    log: FoundLog,
+    others: Others,
+}
+
+/// What was found beside the log.
+#[derive(Drop)]
+struct Others {
+    note: Option<ClosedNote>,
+    master: FoundMaster,
+    copies: Vec<CopyFile>,
+}
+
+/// Opens a database again from the file of its log, and from those of the copies there that are
+/// sound. The volume is made anew. Where the log lacks what was forced, it is not opened, unless the
+/// call says that what is left is to be opened.
+pub(crate) fn reopen<'a, F: Folder, R: Threads + Sync>(
+    teller: &Teller<'_>,
+    threads: &R,
+    folder: &mut F,
+    call: &OpenCall<'_>,
+    log: LogFile,
+    there: &Inventory,
+    notes: &'a Notes,
+) -> Result<Reopened<'a>, OpenFault>
+    requires frames { IsFrameCount call.now.frames }
+    requires claimed { F.is_claimed folder.old }
+    ensures goes_on { IfOk result (λ it.
+        GoesOnFromFile log.len there.now.copies.items it.engine.state) }
+    ensures claimed { F.is_claimed folder.new }
+{
+    let mut remains = find(teller, log, there)?;
+    prepare(teller, folder, call, there, &mut remains)?;
+    let Remains { log, others } = remains;
+    go_on(teller, threads, folder, call, log, others, notes)
+}
+
+/// Reads what stands in a folder. It writes nothing.
+fn find(teller: &Teller<'_>, log: LogFile, there: &Inventory) -> Result<Remains, OpenFault>
+    ensures whole { IfOk result (λ it. length it.log.bytes.items ≡ log.len) }
+    ensures front { IfOk result (λ it.
+        IsFrontOf it.log.bytes.items (record { log = it.log.log; cut = it.log.cut })) }
+    ensures linked { IfOk result (λ it. IsLinked it.log.log.records) }
+    ensures lasting { IfOk result (λ it. LastsOnFile it.log.log it.log.device) }
+    ensures copies { IfOk result (λ it.
+        map (λ file. file.id) it.others.copies.items ≡ there.now.copies.items) }
+{
+    let log = found_log(teller.rt.alloc(), log.file, log.len)?;
+    match find_others(teller, there) {
+        Ok(others) => Ok(Remains { log, others }),
+        Err(fault) => Err(fault),
+    }
+}
+
+fn find_others(teller: &Teller<'_>, there: &Inventory) -> Result<Others, OpenFault>
+    ensures { IfOk result (λ it.
+        map (λ file. file.id) it.copies.items ≡ there.now.copies.items) }
+{
+    let note = note_there(teller, there)?;
+    let master = read_master(teller, there.has_master)?;
+    let copies = read_copies(teller, &there.copies)?;
+    Ok(Others {
+        note,
+        master,
+        copies,
+    })
+}
+
+/// The note of the last closing. One that is none is told, and says nothing.
+fn note_there(teller: &Teller<'_>, there: &Inventory) -> Result<Option<ClosedNote>, OpenFault> {
+    if !there.has_closed {
+        return Ok(None);
+    }
+    let note = read_note(teller.rt, teller.folder)?;
+    if note.is_none() {
+        teller.tell(Place::Closed, &"this is no note of a closing");
+    }
+    Ok(note)
+}
+
+/// Sees that what was found may be opened, and makes the folder ready for a new life. Until nothing
+/// is found to be wrong, nothing is changed there.
+fn prepare<F: Folder>(
+    teller: &Teller<'_>,
+    folder: &mut F,
+    call: &OpenCall<'_>,
+    there: &Inventory,
+    remains: &mut Remains,
+) -> Result<(), OpenFault>
+    requires lasting { LastsOnFile remains.old.log.log remains.old.log.device }
+    requires claimed { F.is_claimed folder.old }
+    ensures whole { OnOk result (call.now.salvage ≡ false → IsWhole (end_of remains.old.log.log)
+        remains.old.others.note (spelled remains.old.others.master)
+        remains.old.others.copies.items remains.old.log.bytes.items) }
+    ensures log { remains.new.log.log ≡ remains.old.log.log }
+    ensures others { remains.new.others ≡ remains.old.others }
+    ensures lasting { OnOk result (LastsOnFile remains.new.log.log remains.new.log.device) }
+    // What stood behind the log has a file of its own,
+    ensures kept { OnOk result (remains.old.log.cut ≢ None
+        → IsWorthKeeping (behind remains.old.log)
+        → WasKept (behind remains.old.log) (F.entries folder.new)) }
+    // and is gone from the log's for certain, before any record is stored there.
+    ensures alone { OnOk result (remains.old.log.cut ≢ None
+        → (known_of remains.new.log.device).bytes ≡ log_bytes remains.new.log.log) }
+    ensures claimed { F.is_claimed folder.new }
+{
+    check_count(call, remains.log.log.page_count())?;
+    check_volume(teller.rt, call.folder)?;
+    let loss = check_loss(teller, call, remains)?;
+    there.clear(teller.rt)?;
+    silence(teller, folder, &loss)?;
+    settle(teller, folder, there, remains)
+}
+
+/// Whether the volume has as many pages as were told, if a count was told.
+fn check_count(call: &OpenCall<'_>, there: u32) -> Result<(), OpenFault> {
+    match call.pages {
+        Some(told) if told != there => Err(OpenFault::OtherCount { there, told }),
+        _ => Ok(()),
+    }
+}
+
+/// Hears all that knows how far the log went once. A loss is a fault, or is told and answered where
+/// what is left is to be opened.
+fn check_loss(
+    teller: &Teller<'_>,
+    call: &OpenCall<'_>,
+    remains: &Remains,
+) -> Result<Loss, OpenFault>
+    ensures { OnOk result (call.now.salvage ≡ false → IsWhole (end_of remains.now.log.log)
+        remains.now.others.note (spelled remains.now.others.master)
+        remains.now.others.copies.items remains.now.log.bytes.items) }
+{
+    let loss = loss_of(teller.rt.alloc(), remains)?;
+    if loss.claims.is_empty() {
+        return Ok(loss);
+    }
+    if call.salvage {
+        teller.tell_loss(&loss);
+        return Ok(loss);
+    }
+    Err(OpenFault::Lost(loss))
+}
+
+fn loss_of(alloc: Global, remains: &Remains) -> Result<Loss, AllocError>
+    ensures { IfOk result (λ loss. loss.claims.items ≡ [] → IsWhole (end_of remains.now.log.log)
+        remains.now.others.note (spelled remains.now.others.master)
+        remains.now.others.copies.items remains.now.log.bytes.items) }
+{
+    let (found, others) = (&remains.log, &remains.others);
+    let mut loss = Loss::new(alloc, found.log.end(), found.cut);
+    loss.hear_note(others.note)?;
+    loss.hear_master(others.master.spelled())?;
+    loss.hear_copies(&others.copies)?;
+    loss.look_behind(&found.bytes)?;
+    Ok(loss)
+}
+
+/// Gives other names to the files that know of more than the log has, so that the next opening is
+/// not refused for what this one went on without.
+fn silence<F: Folder>(teller: &Teller<'_>, folder: &mut F, loss: &Loss) -> Result<(), OpenFault>
+    requires { F.is_claimed folder.old }
+    ensures { F.is_claimed folder.new }
+{
+    for claim in loss.claims.as_slice() {
+        let moved = match claim.witness {
+            Witness::Master => move_master_aside(teller, folder),
+            Witness::Begin(id) | Witness::Page(id, _) => {
+                move_copy_aside(teller, folder, id).map(|_| ())
+            }
+            Witness::Closed | Witness::Record => Ok(()),
+        };
+        moved.map_err(OpenFault::of_folder)?;
+    }
+    Ok(())
+}
+
+/// Makes a folder ready for a new life: what stands behind the log is put aside and then cut off,
+/// and the note of the last closing goes before anything is stored.
+fn settle<F: Folder>(
+    teller: &Teller<'_>,
+    folder: &mut F,
+    there: &Inventory,
+    remains: &mut Remains,
+) -> Result<(), OpenFault>
+    requires lasting { LastsOnFile remains.old.log.log remains.old.log.device }
+    requires claimed { F.is_claimed folder.old }
+    ensures log { remains.new.log.log ≡ remains.old.log.log }
+    ensures others { remains.new.others ≡ remains.old.others }
+    ensures lasting { OnOk result (LastsOnFile remains.new.log.log remains.new.log.device) }
+    // What stood behind the log has a file of its own,
+    ensures kept { OnOk result (remains.old.log.cut ≢ None
+        → IsWorthKeeping (behind remains.old.log)
+        → IsKept (F.entries folder.old) (behind remains.old.log) (F.entries folder.new)) }
+    // and is gone from the log's for certain, before any record is stored there.
+    ensures alone { OnOk result (remains.old.log.cut ≢ None
+        → (known_of remains.new.log.device).bytes ≡ log_bytes remains.new.log.log) }
+    ensures claimed { F.is_claimed folder.new }
+{
+    keep_behind(teller, folder, &remains.log)?;
+    forget_closing(teller, folder, there)?;
+    let found = &mut remains.log;
+    if found.cut.is_some() || !is_vouched(remains.others.note, found.log.end()) {
+        keep_front(found)?;
+    }
+    Ok(())
+}
+
+/// Keeps what stands behind the log in a file of its own.
+fn keep_behind<F: Folder>(
+    teller: &Teller<'_>,
+    folder: &mut F,
+    found: &FoundLog,
+) -> Result<(), OpenFault>
+    requires { F.is_claimed folder.old }
+    ensures kept { OnOk result (found.now.cut ≢ None → IsWorthKeeping (behind found.now)
+        → IsKept (F.entries folder.old) (behind found.now) (F.entries folder.new)) }
+    ensures claimed { F.is_claimed folder.new }
+{
+    match &found.cut {
+        Some(cut) => {
+            teller.tell_cut(cut, found.behind().len());
+            put_aside(teller, folder, found.behind())
+        }
+        None => Ok(()),
+    }
+}
+
+/// Removes the note of the last closing, if there is one.
+fn forget_closing<F: Folder>(
+    teller: &Teller<'_>,
+    folder: &mut F,
+    there: &Inventory,
+) -> Result<(), OpenFault>
+    requires { F.is_claimed folder.old }
+    ensures same { OnOk result (Changes IsSame (F.entries folder.old) (F.entries folder.new)) }
+    ensures claimed { F.is_claimed folder.new }
+{
+    if there.has_closed {
+        remove_note(teller.rt, folder, teller.folder)
+    } else {
+        Ok(())
+    }
+}
+
+/// Stores the log again, and has it alone last on its file.
+fn keep_front(found: &mut FoundLog) -> Result<(), OpenFault>
+    ensures log { found.new.log ≡ found.old.log }
+    ensures lasting { OnOk result (LastsOnFile found.new.log found.new.device) }
+    ensures alone { OnOk result
+        ((known_of found.new.device).bytes ≡ log_bytes found.new.log) }
+{
+    match found.keep_front() {
+        Ok(()) => Ok(()),
+        Err(_) => Err(OpenFault::System(Place::Log, code_of(found.device.error()))),
+    }
+}
+
+/// Whether the note of a clean closing says that the log lasts to its end.
+fn is_vouched(note: Option<ClosedNote>, end: Lsn) -> bool {
+    match note {
+        Some(note) => note.end == end,
+        None => false,
+    }
+}
+
+/// Goes on from what was found.
+fn go_on<'a, F: Folder, R: Threads + Sync>(
+    teller: &Teller<'_>,
+    threads: &R,
+    folder: &mut F,
+    call: &OpenCall<'_>,
+    found: FoundLog,
+    others: Others,
+    notes: &'a Notes,
+) -> Result<Reopened<'a>, OpenFault>
+    requires frames { IsFrameCount call.now.frames }
+    requires linked { IsLinked found.log.records }
+    requires lasting { LastsOnFile found.log found.device }
+    requires claimed { F.is_claimed folder.old }
+    ensures goes_on { IfOk result (λ it.
+        GoesOnWith found.log others.copies.items it.engine.state) }
+    ensures unread { IfOk result (λ it. it.unread.items ≡ ids_unread others.copies.items) }
+    ensures claimed { F.is_claimed folder.new }
+{
+    let facts = Facts::of(&found.log, &others.master);
+    let (mut restarted, device) = restart_on(threads, teller.rt.alloc(), found)?;
+    let first = facts.first_line(&restarted);
+    let (store, unread) = equip(teller, folder, call, &mut restarted, others.copies, notes)?;
+    let engine = restarted.into_engine(teller.rt.alloc(), call.frames, store, device)?;
+    Ok(Reopened {
+        engine,
+        first,
+        point: facts.unnamed,
+        is_master_wrong: facts.is_master_wrong,
+        unread,
+    })
+}
+
+/// What is told of a log that was found.
+#[derive(Clone, Copy)]
+struct Facts {
+    records: usize,
+    end: Lsn,
+    /// Its last complete checkpoint, where the master record does not name it.
+    unnamed: Option<Point>,
+    /// What stands as the master record names no checkpoint of it.
+    is_master_wrong: bool,
+}
+
+impl Facts {
+    fn of(log: &LogImage, master: &FoundMaster) -> Facts
+        requires { IsLinked log.now.records }
+        ensures { IsLog log.now }
+    {
+        let last = checkpoints_of(log).last;
+        Facts {
+            records: log.records().len(),
+            end: log.end(),
+            unnamed: if master.names(last) { None } else { last },
+            is_master_wrong: !master.is_of(log),
+        }
+    }
+
+    /// The first line, once what was open in the log is taken back.
+    fn first_line(&self, restarted: &Restarted) -> FirstLine {
+        FirstLine::Restarted {
+            cut: self.end,
+            taken_back: ended_behind(restarted.records(), self.records),
+            records: restarted.records().len(),
+        }
+    }
+}
+
+/// Takes back what was open in a log that was found.
+fn restart_on<R: Threads + Sync>(
+    threads: &R,
+    alloc: Global,
+    found: FoundLog,
+) -> Result<(Restarted, FileLog), OpenFault>
+    requires linked { IsLinked found.log.records }
+    requires lasting { LastsOnFile found.log found.device }
+    ensures log { IfOk result (λ it. it.0.log ≡ undone_log found.log) }
+    ensures copies { IfOk result (λ it. it.0.copies ≡ []) }
+    ensures lasting { IfOk result (λ it. LastsOnFile it.0.log it.1) }
+{
+    let FoundLog {
+        log,
+        bytes,
+        device,
+        ..
+    } = found;
+    drop(bytes);
+    match restart(threads, alloc, log, device) {
+        Ok(it) => Ok(it),
+        Err((fault, device)) => Err(OpenFault::Restart(fault, code_of(device.error()))),
+    }
+}
+
+/// Takes up the copies that are sound, and makes the volume. Answers the ids of copies that could
+/// not be read, too.
+fn equip<'a, F: Folder>(
+    teller: &Teller<'_>,
+    folder: &mut F,
+    call: &OpenCall<'_>,
+    restarted: &mut Restarted,
+    copies: Vec<CopyFile>,
+    notes: &'a Notes,
+) -> Result<(ToldStore<'a>, Vec<u32>), OpenFault>
+    requires counted { IsPageCount (page_count restarted.old.log) }
+    requires claimed { F.is_claimed folder.old }
+    ensures log { restarted.new.log ≡ restarted.old.log }
+    ensures taken { OnOk result (TakesUp restarted.old copies.items restarted.new) }
+    ensures unread { IfOk result (λ it. it.1.items ≡ ids_unread copies.items) }
+    ensures store { IfOk result (λ it. it.0.store.pages ≡ restarted.new.pages) }
+    ensures claimed { F.is_claimed folder.new }
+{
+    let unread = take_up(teller, restarted, copies)?;
+    let pages = store_of(teller.rt.alloc(), restarted.pages())?;
+    match volume_of(teller.rt, folder, call.folder, pages, notes) {
+        Ok(store) => Ok((store, unread)),
+        Err(fault) => Err(fault),
+    }
+}
+
+/// How many transactions end behind so many records. Undo ends each that was open there.
+fn ended_behind(records: &[Record], front: usize) -> usize {
+    let mut count = 0usize;
+    for it in records.iter().skip(front) {
+        if matches!(it, Record::End { .. }) {
+            count = count.saturating_add(1);
+        }
+    }
+    count
+}

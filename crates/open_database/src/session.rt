@@ -1,0 +1,288 @@
+//! The lines of an open database: each is a call of its engine, and is answered at once.
+
+ghost use Rattle.std.specs.Prelude.{◌≡◌, IfErr, IfOk, OnOk};
+ghost use Rattle.open_database.specs.Calls.{Makes};
+ghost use Rattle.open_database.specs.MadeFiles.{IsGiven, IsInPlace, IsStoredFor, StandsOnPlaced};
+ghost use Rattle.open_database.specs.MadeFiles.{WaitsFor};
+ghost use Rattle.open_database.specs.Session.{Answers, LeavesAnswer, LeavesBad, LeavesServed};
+ghost use Rattle.open_database.specs.Session.{LeavesTaken, Says, Serves, Takes, WritesBad};
+
+use crate::bad_call::{BadCall, LineTrouble};
+use crate::call_kind::CallKind;
+use crate::line_reader::{LineReader, NextLine};
+use crate::pending::Pending;
+use crate::place::Place;
+use crate::said::{Said, write_said};
+use crate::tally::Tally;
+use crate::told::Teller;
+use crate::unplaced_point::UnplacedPoint;
+use aries_core::{Engine, Event, Refusal};
+use event_script::{ScriptFault, read_script};
+use log_store::LogDevice;
+use page_core::write_out;
+use page_store::PageStore;
+use saved_files::Folder;
+use std::alloc::{AllocError, Global};
+use std::io;
+use std::io::{Read, Write};
+use system_files::Notes;
+
+/// Why the lines came to an end before the input did.
+#[derive(Clone, Copy, Debug, PartialEq, Eq)]
+pub(crate) enum ServeFault {
+    OutOfMemory,
+    /// The input could not be read.
+    ReadFault,
+    /// A reply could not be written. So many bytes of its line went out.
+    WriteFault(u64),
+}
+
+impl From<AllocError> for ServeFault {
+    fn from(_error: AllocError) -> ServeFault {
+        ServeFault::OutOfMemory
+    }
+}
+
+/// A device that tells why its last call failed.
+pub(crate) trait TellsWhy {
+    /// Why the last call failed, as the system tells it, if it did.
+    fn why(&self) -> Option<io::Error>;
+}
+
+impl TellsWhy for file_devices::FileLog {
+    fn why(&self) -> Option<io::Error> {
+        self.error()
+    }
+}
+
+/// An open database.
+#[derive(Drop)]
+pub(crate) struct Session<'a, F: Folder, S: PageStore, D: LogDevice> {
+    pub alloc: Global,
+    pub engine: Engine<S, D>,
+    pub folder: F,
+    pub teller: Teller<'a>,
+    /// Why calls of the folder failed.
+    pub notes: &'a Notes,
+    /// Why calls of the store failed.
+    pub store_notes: &'a Notes,
+    /// The copies whose files are not in place.
+    pub pending: Pending,
+    /// The checkpoint whose master record is not in place.
+    pub point: Option<UnplacedPoint>,
+    /// What stands as the master record names no checkpoint of the log.
+    pub is_master_wrong: bool,
+    /// The ids that are not given, since their files could not be read.
+    pub unread: Vec<u32>,
+    /// How the lines were answered.
+    pub tally: Tally,
+    /// Some file failed.
+    pub has_failed: bool,
+}
+
+/// What a line says: a call, or nothing.
+fn said_in(alloc: Global, line: &[u8]) -> Result<Result<Option<Event>, LineTrouble>, AllocError>
+    ensures { IfOk result (λ it. IfOk it (Says line.now)) }
+{
+    let mut bytes = line;
+    Ok(match read_script(alloc, &mut bytes) {
+        Ok(script) if script.restore.is_some() => Err(LineTrouble::Restore),
+        Ok(script) => Ok(script.events.first().copied()),
+        Err(ScriptFault::BadLine(_, why)) => Err(LineTrouble::Bad(why)),
+        Err(ScriptFault::Input | ScriptFault::ReadFault) => Err(LineTrouble::NoText),
+        Err(ScriptFault::OutOfMemory) => return Err(AllocError),
+    })
+}
+
+/// What the last bytes of an input say, behind which no line feed stands: nothing, or something
+/// that is not made.
+fn said_unended(
+    alloc: Global,
+    line: &[u8],
+) -> Result<Result<Option<Event>, LineTrouble>, AllocError>
+    ensures { IfOk result (λ it. IfOk it (Says line.now)) }
+{
+    match said_in(alloc, line)? {
+        Ok(None) => Ok(Ok(None)),
+        _ => Ok(Err(LineTrouble::Unended)),
+    }
+}
+
+/// Writes that a line is no call, and why.
+fn write_bad<W: Write>(
+    alloc: Global,
+    number: u64,
+    bad: &BadCall<'_>,
+    writer: &mut W,
+) -> Result<(), ServeFault>
+    ensures written { OnOk result
+        (WritesBad number (W.contents writer.old) (W.contents writer.new)) }
+    ensures left { IfErr result
+        (LeavesBad number (W.contents writer.old) (W.contents writer.new)) }
+{
+    let Ok(why) = format!(in alloc; "{bad}") else {
+        return Err(ServeFault::OutOfMemory);
+    };
+    let Ok(text) = format!(in alloc; "bad line {number}: {why}\n") else {
+        return Err(ServeFault::OutOfMemory);
+    };
+    match write_out(writer, text.as_bytes()) {
+        Ok(()) => Ok(()),
+        Err(done) => Err(ServeFault::WriteFault(done)),
+    }
+}
+
+impl<F: Folder, S: PageStore, D: LogDevice + TellsWhy> Session<'_, F, S, D> {
+    /// Takes the lines of the input one after another, to its end. Each is answered by one line, but
+    /// for those that say nothing.
+    pub fn serve<R: Read + Drop, W: Write>(
+        &mut self,
+        lines: &mut LineReader<R>,
+        writer: &mut W,
+    ) -> Result<(), ServeFault>
+        requires { F.is_claimed self.old.folder }
+        ensures served { OnOk result (Serves self.old.engine.state self.new.engine.state
+            (W.contents writer.old) (W.contents writer.new)) }
+        ensures left { IfErr result (LeavesServed self.old.engine.state self.new.engine.state
+            (W.contents writer.old) (W.contents writer.new)) }
+        ensures claimed { F.is_claimed self.new.folder }
+    {
+        for number in 1..u64::MAX {
+            match lines.next_line() {
+                NextLine::Line(len) => {
+                    let line = lines.line(len);
+                    self.take_line(number, line, said_in(self.alloc, line)?, writer)?;
+                }
+                NextLine::Unended(len) => {
+                    let line = lines.line(len);
+                    self.take_line(number, line, said_unended(self.alloc, line)?, writer)?;
+                }
+                NextLine::TooLong => {
+                    self.take_line(number, &[], Err(LineTrouble::TooLong), writer)?;
+                }
+                NextLine::End => return Ok(()),
+                NextLine::Failed => return Err(ServeFault::ReadFault),
+            }
+        }
+        Ok(())
+    }
+
+    /// Takes the line of this number, which says this.
+    fn take_line<W: Write>(
+        &mut self,
+        number: u64,
+        line: &[u8],
+        said: Result<Option<Event>, LineTrouble>,
+        writer: &mut W,
+    ) -> Result<(), ServeFault>
+        requires claimed { F.is_claimed self.old.folder }
+        requires says { IfOk said (Says line.now) }
+        ensures taken { OnOk result (Takes number said self.old.engine.state
+            self.new.engine.state (F.entries self.new.folder) (F.is_stored self.new.folder)
+            (W.contents writer.old) (W.contents writer.new)) }
+        ensures left { IfErr result (LeavesTaken number said self.old.engine.state
+            self.new.engine.state (F.entries self.new.folder) (F.is_stored self.new.folder)
+            (W.contents writer.old) (W.contents writer.new)) }
+        ensures claimed { F.is_claimed self.new.folder }
+    {
+        match said {
+            Ok(Some(event)) => self.answer(number, event, writer),
+            Ok(None) => Ok(()),
+            Err(why) => self.refuse_line(number, &BadCall { line, why }, writer),
+        }
+    }
+
+    /// Tells that a line is no call, to a person and to the writer.
+    fn refuse_line<W: Write>(
+        &mut self,
+        number: u64,
+        bad: &BadCall<'_>,
+        writer: &mut W,
+    ) -> Result<(), ServeFault>
+        ensures written { OnOk result
+            (WritesBad number (W.contents writer.old) (W.contents writer.new)) }
+        ensures left { IfErr result
+            (LeavesBad number (W.contents writer.old) (W.contents writer.new)) }
+        ensures engine { self.new.engine ≡ self.old.engine }
+        ensures folder { self.new.folder ≡ self.old.folder }
+    {
+        self.tally.note(number, true);
+        let _ = eprintln!(self.teller.rt; "imgcopy: line {number}: {bad}");
+        write_bad(self.alloc, number, bad, writer)
+    }
+
+    /// Makes a call, puts in place what it made, and then writes its reply.
+    fn answer<W: Write>(
+        &mut self,
+        number: u64,
+        event: Event,
+        writer: &mut W,
+    ) -> Result<(), ServeFault>
+        requires { F.is_claimed self.old.folder }
+        ensures answered { OnOk result (Answers event self.old.engine.state
+            self.new.engine.state (F.entries self.new.folder) (F.is_stored self.new.folder)
+            (W.contents writer.old) (W.contents writer.new)) }
+        ensures left { IfErr result (LeavesAnswer event self.old.engine.state
+            self.new.engine.state (F.entries self.new.folder) (F.is_stored self.new.folder)
+            (W.contents writer.old) (W.contents writer.new)) }
+        ensures claimed { F.is_claimed self.new.folder }
+    {
+        let said = self.made(event);
+        self.note(number, &said);
+        write_said(self.alloc, &said, writer)
+    }
+
+    /// Makes a call, and puts in place what it made.
+    fn made(&mut self, event: Event) -> Said
+        requires { F.is_claimed self.old.folder }
+        ensures made { Makes event self.old.engine.state result self.new.engine.state }
+        // Where what is said tells of a file, it is in place.
+        ensures in_place { IsInPlace event result self.new.engine.state
+            (F.entries self.new.folder) }
+        ensures stored { IsStoredFor event result (F.is_stored self.new.folder) }
+        // Where it is not, its copy waits for it, and no copy stands on that one.
+        ensures waits { WaitsFor event result self.new.pending }
+        ensures stands { StandsOnPlaced event result self.old.pending }
+        ensures given { IsGiven event result self.old.unread.items }
+        ensures claimed { F.is_claimed self.new.folder }
+    {
+        match CallKind::of(&event) {
+            CallKind::Seals(id) => self.seal(id),
+            CallKind::EndsCheckpoint => self.end_checkpoint(),
+            CallKind::BeginsCopy(None) => self.begin_copy(None),
+            CallKind::BeginsCopy(Some(parent)) => self.begin_increment(parent),
+            CallKind::Plain => Said::Reply(self.engine.apply(event)),
+        }
+    }
+
+    /// Takes note of an answer, and tells a person why a file failed.
+    fn note(&mut self, number: u64, said: &Said)
+        ensures engine { self.new.engine ≡ self.old.engine }
+        ensures folder { self.new.folder ≡ self.old.folder }
+    {
+        self.tally.note(number, said.is_refused());
+        if said.is_fault() {
+            self.has_failed = true;
+        }
+        self.tell_fault(said);
+    }
+
+    /// Tells which of the database's files failed, and why.
+    pub(crate) fn tell_fault(&self, said: &Said) {
+        match said {
+            Said::Reply(Err(Refusal::StoreFault)) => self.teller.tell_failed(
+                Place::Volume,
+                self.store_notes.error(),
+                "it has something else than was written",
+            ),
+            Said::Reply(Err(Refusal::LogFault | Refusal::CommitUnsure(_))) => {
+                self.teller.tell_failed(
+                    Place::Log,
+                    self.engine.log().device().why(),
+                    "it took less than was written",
+                );
+            }
+            Said::Reply(_) | Said::Unplaced(_) => {}
+        }
+    }
+}

@@ -1,3 +1,0 @@
-//! Records behind a log's front.
-
-pub use log_remains::forced_behind;

@@ -1,3 +1,0 @@
-//! The bytes of a volume.
-
-pub use volume_output::write_volume;

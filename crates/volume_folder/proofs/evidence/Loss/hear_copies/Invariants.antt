@@ -1,9 +1,0 @@
-use Rattle.std.proofs.Common.{◌≡◌}
-use Rattle.std.specs.List.{AllWithin}
-use Rattle.volume_folder.specs.Evidence.{Hears, IsFileWithin}
-use Rattle.volume_folder.proofs.evidence.Loss.hear_copies.Given as goal
-
-abbrev pub invariant-loop-file : goal.invariant-loop-file
-invariant-loop-file l = (l.self.end ≡ l.initial.self.end)
-    × Hears l.initial.self.claims.items l.self.claims.items
-    (AllWithin (IsFileWithin l.self.end) l.copies 0 l.file-index)

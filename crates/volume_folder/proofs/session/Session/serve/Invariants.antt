@@ -1,7 +1,0 @@
-use Rattle.volume_folder.specs.Session.{Serves}
-use Rattle.volume_folder.proofs.session.Session.serve.Given as goal
-
-abbrev pub invariant-loop-number : goal.invariant-loop-number
-invariant-loop-number g l = g.F.Folder.is_claimed l.self.folder
-    × Serves l.initial.self.engine.state l.self.engine.state (g.W.Write.contents l.initial.writer)
-    (g.W.Write.contents l.writer)
