@@ -1,11 +1,11 @@
 -- Slots that become holes, and holes that are squeezed out.
 use Rattle.std.proofs.Common.{◌≡◌, ℕ, zero, suc, ◌+◌, ◌<◌, ◌≤◌, Bool, true, false, cond, ◌||◌, List, [], ◌∷◌, ◌++◌}
-use Rattle.std.proofs.Common.{◌-◌, ◌*◌, length, get_or, map, set, refl, sym, ap, ◌∙◌, arith}
+use Rattle.std.proofs.Common.{◌-◌, ◌*◌, length, get_or, map, set, refl, sym, ap, ◌∙◌, arith, inl, inr}
 use Rattle.std.specs.Prelude.{◌==◌, Option, Some, None, IsSome, is_some, position, nat_lt}
 use Rattle.std.specs.List.{filter, list_any, position_or_len}
 use Rattle.std.specs.Option.{option_map_or}
 use Rattle.std.proofs.lemmas.Bool.{ltb-false}
-use Rattle.std.proofs.lemmas.List.{length-map, length-set, length_push}
+use Rattle.std.proofs.lemmas.List.{append-nil, length-map, length-set, length_push}
 use Rattle.std.proofs.lemmas.List.Elements.{filter_map-append}
 use Rattle.std.proofs.lemmas.List.Folds.{list_any_at, list_any_none}
 use Rattle.std.proofs.lemmas.List.Quantifiers.{position-Some}
@@ -13,7 +13,7 @@ use Rattle.std.proofs.lemmas.List.Sums.{fails_before_first}
 use Rattle.page_core.specs.declared.page.Page.{Page}
 use Rattle.buffer_pool.specs.Frames.{given_up, is_resident}
 use Rattle.buffer_pool.specs.Marks.{has_clean}
-use Rattle.buffer_pool.specs.Slots.{AreCounted, pages_in}
+use Rattle.buffer_pool.specs.Slots.{AreCounted, IsTrimmed, pages_in}
 
 -- ---- a page less
 
@@ -151,6 +151,28 @@ counted_squeezed count slots counted =
       pages = omega (arith, pages, counted.pages);
       holes = omega (arith, pages, length-map {B = Option Page} (pages_in slots) Some);
     }
+
+-- ---- a hole that was the last, taken away
+
+pub pages_trimmed : (old slots : List (Option Page)) → IsTrimmed old slots → pages_in slots ≡ pages_in old
+pages_trimmed old slots (inl same) = ap pages_in same
+pages_trimmed old slots (inr less) =
+    sym (ap pages_in less ∙ filter_map-append (λ slot. slot) slots (None ∷ []) ∙ append-nil (pages_in slots))
+
+pub length_trimmed : (old slots : List (Option Page)) → IsTrimmed old slots → length slots ≤ length old
+length_trimmed old slots (inl same) = omega (arith, ap (length {A = Option Page}) same)
+length_trimmed old slots (inr less) = omega (arith, ap (length {A = Option Page}) less, length_push slots None)
+
+pub counted_trimmed : (count : ℕ) (old slots : List (Option Page)) → IsTrimmed old slots → AreCounted count old
+    → AreCounted count slots
+counted_trimmed count old slots less counted =
+    let pages = ap (length {A = Page}) (pages_trimmed old slots less) in
+    record {
+      pages = omega (arith, pages, counted.pages);
+      holes = omega (arith, pages, counted.holes, length_trimmed old slots less);
+    }
+
+-- ---- what is left
 
 -- with more slots to spare there is more room
 pub roomier : {X : Type 0} {a b : ℕ} (free : Option X) → a ≤ b

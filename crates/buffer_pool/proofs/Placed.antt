@@ -1,24 +1,22 @@
 -- Pages in slots under their numbers, and how one is found.
 use Rattle.std.proofs.Common.{◌≡◌, ◌≢◌, ℕ, zero, suc, ◌+◌, ◌<◌, ◌≤◌, Bool, true, false, cond, ◌||◌, List, [], ◌∷◌, ◌++◌}
-use Rattle.std.proofs.Common.{◌*◌, length, get_or, map, set, swap, refl, sym, ap, subst, ◌∙◌, arith, nat_eq, inl, inr, true≢false}
-use Rattle.std.specs.Prelude.{◌==◌, Option, Some, None, IfSome, IsSome, is_some, position, slice_get}
+use Rattle.std.proofs.Common.{◌*◌, ◌-◌, length, get_or, map, set, swap, refl, sym, ap, subst, ◌∙◌, arith, nat_eq, inl, inr, true≢false}
+use Rattle.std.specs.Prelude.{◌==◌, Option, Some, None, IfSome, IsSome, is_some, option_to_list, position, slice_get}
 use Rattle.std.specs.Cmp.{nat_eq_equiv}
-use Rattle.std.specs.List.{All, Contains, IsDistinct, filter, list_any}
+use Rattle.std.specs.List.{All, Contains, IsDistinct, filter}
 use Rattle.std.specs.Map.{keys_of, lookup, values_of}
 use Rattle.std.specs.Option.{option_map, option_map_or}
-use Rattle.std.proofs.lemmas.Bool.{cases_eq, cases_lt, eq-eqb, eqb-true, ne_eqb}
+use Rattle.std.proofs.lemmas.Bool.{cases_eq, eq-eqb, eqb-true, ne_eqb}
 use Rattle.std.proofs.Math.Bool.{or-true}
-use Rattle.std.proofs.lemmas.Option.{get_or_from_slice_get, none-some, same_Some, slice_get-get_or, slice_get-map, slice_get_within}
+use Rattle.std.proofs.lemmas.Option.{get_or_from_slice_get, none-some, same_Some, slice_get-get_or, slice_get_within}
 use Rattle.std.proofs.lemmas.List.{get_or-map, get_or-set_other, get_or-set_same, get_or_append_left, get_or_default, get_or_push}
-use Rattle.std.proofs.lemmas.List.{length-map, length-set, length_push, map-append, map-set, same_lists}
+use Rattle.std.proofs.lemmas.List.{append-nil, length-append, length-map, length-set, length_push, map-append, map-set, same_lists}
 use Rattle.std.proofs.lemmas.List.{set-append_left, set-get_or}
 use Rattle.std.proofs.lemmas.List.Edits.{swap_is}
-use Rattle.std.proofs.lemmas.List.Elements.{All-cons, All-contains, All-filter, All-head, All-map, All-push, All-set, All-tail}
+use Rattle.std.proofs.lemmas.List.Elements.{All-contains, All-filter, All-head, All-map, All-push, All-set, All-tail}
 use Rattle.std.proofs.lemmas.List.Elements.{All-weaker, filter_passes}
-use Rattle.std.proofs.lemmas.List.Folds.{list_any_at}
 use Rattle.std.proofs.lemmas.List.Quantifiers.{position-Some}
 use Rattle.std.proofs.lemmas.Map.Entries.{length-keys_of, length-values_of}
-use Rattle.std.proofs.lemmas.Map.Keys.{apart_from_distinct}
 use Rattle.std.proofs.lemmas.Map.Made.{IsDistinct-keys_filter}
 use Rattle.std.proofs.lemmas.Map.Steps.{length-le_from_distinct_below}
 use Rattle.indexmap.specs.IndexMap.{set_value_at}
@@ -34,8 +32,8 @@ use Rattle.log_records.specs.Image.{with_change, with_record}
 use Rattle.log_records.specs.Record.{change_of, own_lsn}
 use Rattle.log_records.proofs.Public.{number-with_record}
 use Rattle.buffer_pool.specs.Frames.{is_resident}
-use Rattle.buffer_pool.specs.Slots.{AreCounted, AreUnderNumbers, IsPlace, IsUnder, IsUnderNumber, pages_in}
-use Rattle.buffer_pool.proofs.Holes.{none_found}
+use Rattle.buffer_pool.specs.Slots.{AreCounted, ArePageNumbers, AreUnderNumbers, IsPlace, IsTrimmed, IsUnder}
+use Rattle.buffer_pool.specs.Slots.{IsUnderNumber, pages_in}
 
 abbrev pub Entry : Type 0
 Entry = ℕ × Option Page
@@ -111,24 +109,33 @@ values_set [] i slot = refl
 values_set (e ∷ es) zero slot = refl
 values_set (e ∷ es) (suc i) slot = ap (λ (ss : List (Option Page)). e.1 ∷ ss) (values_set es i slot)
 
-under_set : (es : List Entry) (i : ℕ) (slot : Option Page) → i < length es → AreUnderNumbers es
-    → ((b : ℕ) (e : Entry) → slice_get es i ≡ Some e → IsUnderNumber b e → IsUnderNumber b (e.0, slot))
-    → AreUnderNumbers (set_value_at es i slot)
-under_set es i slot lt all here =
+length-set_value : (es : List Entry) (i : ℕ) (slot : Option Page) → length (set_value_at es i slot) ≡ length es
+length-set_value [] i slot = refl
+length-set_value (e ∷ es) zero slot = refl
+length-set_value (e ∷ es) (suc i) slot = ap suc (length-set_value es i slot)
+
+-- the bound of all entries does not move
+pub still_under : (es : List Entry) (i : ℕ) (slot : Option Page)
+    → All (IsUnderNumber (MAX_PAGES + length es)) (set_value_at es i slot) → AreUnderNumbers (set_value_at es i slot)
+still_under es i slot all =
+    subst (λ (n : ℕ). All (IsUnderNumber (MAX_PAGES + n)) (set_value_at es i slot)) (sym (length-set_value es i slot)) all
+
+under_set : (b : ℕ) (es : List Entry) (i : ℕ) (slot : Option Page) → i < length es → All (IsUnderNumber b) es
+    → ((e : Entry) → slice_get es i ≡ Some e → IsUnderNumber b e → IsUnderNumber b (e.0, slot))
+    → All (IsUnderNumber b) (set_value_at es i slot)
+under_set b es i slot lt all here =
     let e = get_or es i (0, None) in
     let at = slice_get-get_or es i (0, None) lt in
-    let b = MAX_PAGES + length es in
-    subst AreUnderNumbers (sym (set_is es i e slot at))
-    (subst (λ (n : ℕ). All (IsUnderNumber (MAX_PAGES + n)) (set es i (e.0, slot))) (sym (length-set es i (e.0, slot)))
-    (All-set (IsUnderNumber b) es i (e.0, slot) (here b e at (all i (0, None) lt)) all))
+    subst (All (IsUnderNumber b)) (sym (set_is es i e slot at))
+    (All-set (IsUnderNumber b) es i (e.0, slot) (here e at (all i (0, None) lt)) all)
 
 -- a page is taken out
-pub under_less : (es : List Entry) (i : ℕ) (slot : Option Page) → IsSome (get_or (values_of es) i None) → slot ≡ None
-    → AreUnderNumbers es → AreUnderNumbers (set_value_at es i slot)
-under_less es i slot some none all =
+pub under_less : (b : ℕ) (es : List Entry) (i : ℕ) (slot : Option Page) → IsSome (get_or (values_of es) i None)
+    → slot ≡ None → All (IsUnderNumber b) es → All (IsUnderNumber b) (set_value_at es i slot)
+under_less b es i slot some none all =
     let lt : i < length es = omega (arith, within_some (values_of es) i some, length-values_of es) in
-    subst (λ (o : Option Page). AreUnderNumbers (set_value_at es i o)) (sym none)
-    (under_set es i None lt all (λ b e at under. record { below = under.below; own = tt }))
+    subst (λ (o : Option Page). All (IsUnderNumber b) (set_value_at es i o)) (sym none)
+    (under_set b es i None lt all (λ e at under. record { below = under.below; own = tt }))
 
 -- ---- a page in its place
 
@@ -228,8 +235,19 @@ later a b es le all =
     All-weaker (IsUnderNumber a) (IsUnderNumber b)
     (λ e under. record { below = omega (arith, under.below, le); own = under.own }) es all
 
+-- a page comes behind them
+pub under_with : (b : ℕ) (es : List Entry) (n : ℕ) (page : Page) → n ≡ page.number → page.number < MAX_PAGES
+    → MAX_PAGES ≤ b → All (IsUnderNumber b) es → All (IsUnderNumber b) (es ++ (n, Some page) ∷ [])
+under_with b es n page same low le all =
+    All-push (IsUnderNumber b) es (n, Some page) all
+    (record { below = omega (arith, same, low, le); own = (sym same, low) })
+
+-- where no hole has a number past those of all pages
+pub under_named : (es : List Entry) → ArePageNumbers es → AreUnderNumbers es
+under_named es named = later MAX_PAGES (MAX_PAGES + length es) es (omega arith) named
+
 module _ (es : List Entry) (all : AreUnderNumbers es) where
-  kept_under : All (IsUnderNumber MAX_PAGES) (kept es)
+  pub kept_under : ArePageNumbers (kept es)
   kept_under = λ k d lt.
       let under = All-filter (λ (e : Entry). is_some e.1) (IsUnderNumber (MAX_PAGES + length es)) es all k d lt in
       let e = get_or (kept es) k d in
@@ -240,7 +258,7 @@ module _ (es : List Entry) (all : AreUnderNumbers es) where
       by n (Some page) own is = omega (arith, own.0, own.1)
 
   pub under_kept : AreUnderNumbers (kept es)
-  under_kept = later MAX_PAGES (MAX_PAGES + length (kept es)) (kept es) (omega arith) kept_under
+  under_kept = under_named (kept es) kept_under
 
   -- so there are no more pages than numbers
   pages_few : IsDistinct nat_eq (keys_of es) → length (pages_in (values_of es)) ≤ MAX_PAGES
@@ -286,8 +304,7 @@ module _ (es : List Entry) (all : AreUnderNumbers es) where
         let b = MAX_PAGES + length es + 1 in
         let more : MAX_PAGES + length (xs ++ (n, Some page) ∷ []) ≡ b = omega (arith, length_push xs (n, Some page), long) in
         subst (λ (m : ℕ). All (IsUnderNumber m) (xs ++ (n, Some page) ∷ [])) (sym more)
-        (All-push (IsUnderNumber b) xs (n, Some page) under
-        (record { below = omega (arith, same, low); own = (sym same, low) }))
+        (under_with b xs n page same low (omega arith) under)
 
     pub under_more : AreUnderNumbers (es ++ (n, Some page) ∷ [])
     under_more = under_last es refl (later (MAX_PAGES + length es) (MAX_PAGES + length es + 1) es (omega arith) all)
@@ -336,6 +353,32 @@ pub set_last : (es : List Entry) (e : Entry) (slot : Option Page)
     → set_value_at (es ++ e ∷ []) (length es) slot ≡ es ++ (e.0, slot) ∷ []
 set_last [] e slot = refl
 set_last (x ∷ es) e slot = ap (λ (ys : List Entry). x ∷ ys) (set_last es e slot)
+
+-- ---- the last hole taken away
+
+-- fewer entries stay below the bound
+pub under_front : (b : ℕ) (es left : List Entry) (r : Option Entry) → es ≡ left ++ option_to_list r
+    → All (IsUnderNumber b) es → All (IsUnderNumber b) left
+under_front b es left r is all = λ k d lt.
+    let more = option_to_list r in
+    let all_of : All (IsUnderNumber b) (left ++ more) = subst (All (IsUnderNumber b)) is all in
+    subst (IsUnderNumber b) (get_or_append_left left more d k lt)
+    (all_of k d (omega (arith, lt, length-append left more)))
+
+pub trimmed : (es left : List Entry) (r : Option Entry) → es ≡ left ++ option_to_list r
+    → slice_get (values_of es) (length es - 1) ≡ Some None → IsTrimmed (values_of es) (values_of left)
+trimmed es left None is hole = inl (sym (ap values_of (is ∙ append-nil left)))
+trimmed es left (Some e) is hole = inr (slots ∙ ap (λ (o : Option Page). values_of left ++ o ∷ []) last)
+  where
+    slots : values_of es ≡ values_of left ++ e.1 ∷ []
+    slots = ap values_of is ∙ map-append (λ (x : Entry). x.1) left (e ∷ [])
+
+    last : e.1 ≡ None
+    last =
+        sym (get_or_push (values_of left) e.1 None (length es - 1)
+        (omega (arith, ap (length {A = Option Page}) slots, length_push (values_of left) e.1, length-values_of es)))
+        ∙ ap (λ (ss : List (Option Page)). get_or ss (length es - 1) None) (sym slots)
+        ∙ get_or_from_slice_get (values_of es) (length es - 1) None None hole
 
 -- ---- a change of one page
 
@@ -393,10 +436,11 @@ redone_none next n slots names absent =
         ∙ ap (λ (ys : List (Option Page)). redone next x ∷ ys) (stay xs (λ k page at. other (suc k) page at))
 
 -- a change leaves each page under its number
-pub under_redone : (next : Record) (es : List Entry) (i : ℕ) (slot : Option Page) → i < length es
-    → slot ≡ redone next (get_or (values_of es) i None) → AreUnderNumbers es → AreUnderNumbers (set_value_at es i slot)
-under_redone next es i slot lt is all =
-    under_set es i slot lt all (λ b e at under. record {
+pub under_redone : (b : ℕ) (next : Record) (es : List Entry) (i : ℕ) (slot : Option Page) → i < length es
+    → slot ≡ redone next (get_or (values_of es) i None) → All (IsUnderNumber b) es
+    → All (IsUnderNumber b) (set_value_at es i slot)
+under_redone b next es i slot lt is all =
+    under_set b es i slot lt all (λ e at under. record {
       below = under.below;
       own = subst (λ (o : Option Page). IfSome o (IsUnder e.0)) (sym (is ∙ ap (redone next) (value_at es i e at)))
           (by e.0 e.1 under.own);

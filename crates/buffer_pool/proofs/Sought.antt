@@ -16,7 +16,7 @@ use Rattle.log_records.proofs.Public.{number-with_record}
 use Rattle.buffer_pool.specs.Frames.{is_resident}
 use Rattle.buffer_pool.specs.Marks.{IsPassed, MarksView, PassesNone, has_clean}
 use Rattle.buffer_pool.specs.Pool.{IsPoolOf, IsWhole, PageState, PoolView, is_clean_in, unwritten}
-use Rattle.buffer_pool.specs.Slots.{IsPlace, pages_in}
+use Rattle.buffer_pool.specs.Slots.{IsPlace, IsTrimmed, pages_in}
 use Rattle.buffer_pool.proofs.Fetching.{room_kept}
 use Rattle.buffer_pool.proofs.Placed.{redone, resident_at}
 
@@ -205,6 +205,17 @@ sought_less clean slots now place old marks is sought more =
       | inr other ↦
           ap (has_clean clean) (get_or-set_other slots place k None d other) ∙ sought k d here (more k passed other)
     ])
+
+-- nor does it where the last hole is taken away
+pub sought_trimmed : (clean : ℕ → Bool) (old slots : List (Option Page)) (marks : MarksView) → IsTrimmed old slots
+    → PassesNone clean old marks → PassesNone clean slots marks
+sought_trimmed clean old slots marks (inl same) sought =
+    subst (λ (ss : List (Option Page)). PassesNone clean ss marks) (sym same) sought
+sought_trimmed clean old slots marks (inr less) sought = λ k d there passed.
+    let before : k < length old = omega (arith, there, ap (length {A = Option Page}) less, length_push slots None) in
+    ap (has_clean clean) (sym (get_or_append_left slots (None ∷ []) d k there)
+    ∙ ap (λ (ss : List (Option Page)). get_or ss k d) (sym less))
+    ∙ sought k d before passed
 
 -- ---- marks that are made anew
 

@@ -1,6 +1,6 @@
 -- Slots in which pages stand, in the order in which they came, with holes among them.
-use Rattle.std.specs.Prelude.{ℕ, ◌≡◌, ◌+◌, ◌*◌, ◌<◌, ◌≤◌, List, length, Option, None, Some, IfSome}
-use Rattle.std.specs.Prelude.{slice_index_or}
+use Rattle.std.specs.Prelude.{ℕ, ◌≡◌, ◌+◌, ◌*◌, ◌<◌, ◌≤◌, ◌⊎◌, ◌++◌, List, [], ◌∷◌, length}
+use Rattle.std.specs.Prelude.{Option, None, Some, IfSome, slice_index_or}
 use Rattle.std.specs.List.{All, filter_map}
 use Rattle.page_core.specs.declared.page.Page.{Page}
 use Rattle.page_core.specs.declared.page.TheConstants.{MAX_PAGES}
@@ -21,6 +21,10 @@ pub record IsPlace (slots : List (Option Page)) (number place : ℕ) : Type 0 wh
   pub only : (k : ℕ) (page : Page) → slice_index_or slots k None ≡ Some page
       → page.number ≡ number → k ≡ place
 
+-- the slots are the old ones, maybe without a hole that was the last
+abbrev pub IsTrimmed : List (Option Page) → List (Option Page) → Type 0
+IsTrimmed old slots = (slots ≡ old) ⊎ (old ≡ slots ++ None ∷ [])
+
 -- ---- how they are kept
 
 -- the page has this number, and a volume may have such a page
@@ -35,6 +39,10 @@ pub record IsUnderNumber (bound : ℕ) (entry : ℕ × Option Page) : Type 0 whe
 -- so the number behind the bound is free for one hole more
 abbrev pub AreUnderNumbers : List (ℕ × Option Page) → Type 0
 AreUnderNumbers entries = All (IsUnderNumber (MAX_PAGES + length entries)) entries
+
+-- no hole has a number past those of all pages
+abbrev pub ArePageNumbers : List (ℕ × Option Page) → Type 0
+ArePageNumbers entries = All (IsUnderNumber MAX_PAGES) entries
 
 -- so many slots have a page, and the holes are one more than these at most
 pub record AreCounted (count : ℕ) (slots : List (Option Page)) : Type 0 where

@@ -223,12 +223,13 @@ impl Frames {
         requires holes { length self.old.slots ≤ 2 * length self.old.pages - 1 }
         requires sought { IsSought (is_clean_in states.now) self.old }
         ensures pages { self.new.pages ≡ given_up (is_clean_in states.now) self.old.pages }
-        ensures room { self.new.room ≡ self.old.room }
+        ensures room { self.old.room ≤ self.new.room }
         ensures sought { IsSought (is_clean_in states.now) self.new }
     {
         let place = self.first_clean(states)?;
         let frame = self.slots.take(place);
         self.marks.clear(place);
+        self.slots.trim();
         frame
     }
 

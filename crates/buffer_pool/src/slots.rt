@@ -1,15 +1,16 @@
 //! The slots in which the pages of a pool stand.
 
-ghost use Rattle.std.specs.Prelude.{◌≡◌, ◌+◌, ◌-◌, ◌*◌, ◌<◌, ◌≤◌, ◌++◌, [], ◌∷◌, None, Some, false};
+ghost use Rattle.std.specs.Prelude.{◌≡◌, ◌+◌, ◌-◌, ◌*◌, ◌<◌, ◌≤◌, ◌++◌, [], ◌∷◌, None, Some};
+ghost use Rattle.std.specs.Prelude.{◌↔◌, false, true};
 ghost use Rattle.std.specs.Prelude.{length, map, is_some, slice_get, slice_index_or, slice_set};
 ghost use Rattle.std.specs.Prelude.{IfOk, IfSome, IsSome, OnErr, OnOk, nat_eq, nat_le};
 ghost use Rattle.std.specs.List.{Contains};
 ghost use Rattle.std.specs.Option.{option_copied, option_map};
-ghost use Rattle.indexmap.specs.IndexMap.{get, spare};
+ghost use Rattle.indexmap.specs.IndexMap.{get, spare, values};
 ghost use Rattle.log_records.specs.Image.{with_record};
 ghost use Rattle.log_records.specs.Record.{change_of};
 ghost use Rattle.buffer_pool.specs.Frames.{is_resident};
-ghost use Rattle.buffer_pool.specs.Slots.{IsPlace, pages_in};
+ghost use Rattle.buffer_pool.specs.Slots.{IsPlace, IsTrimmed, pages_in};
 
 use crate::frame::{Frame, MAX_FRAMES};
 use crate::page_hasher::PageHasher;
@@ -32,18 +33,22 @@ pub(crate) struct Slots {
     slots: SlotMap,
     /// How many slots have a frame.
     count: usize,
+    /// Whether no hole has a number past those of all pages.
+    is_named: bool,
 }
 
 impl Model for Slots {
     ghost use Rattle.indexmap.specs.IndexMap.{spare as room_of, values};
-    ghost use Rattle.buffer_pool.specs.Slots.{AreCounted, AreUnderNumbers, SlotsView};
+    ghost use Rattle.std.specs.Prelude.{◌≡◌, true};
+    ghost use Rattle.buffer_pool.specs.Slots.{AreCounted, ArePageNumbers, AreUnderNumbers, SlotsView};
 
     ghost Value = { SlotsView };
 
     ghost view = { λ it. record { list = values it.slots; spare = room_of it.slots } };
 
     ghost invariant = { λ it. AreUnderNumbers it.slots.entries
-        × AreCounted it.count (values it.slots) };
+        × AreCounted it.count (values it.slots)
+        × (it.is_named ≡ true → ArePageNumbers it.slots.entries) };
 }
 
 impl Slots {
@@ -61,6 +66,7 @@ impl Slots {
                 BuildHasherDefault::new(),
             )?,
             count: 0,
+            is_named: true,
         })
     }
 
@@ -149,7 +155,10 @@ impl Slots {
         self.count += 1;
         match found {
             None => put_last(&mut self.slots, number, Some(frame)),
-            Some(hole) => put_past_hole(&mut self.slots, hole, number, frame),
+            Some(hole) => {
+                self.is_named = false;
+                put_past_hole(&mut self.slots, hole, number, frame);
+            }
         }
     }
 
@@ -164,6 +173,17 @@ impl Slots {
         self.slots[place].take()
     }
 
+    /// Takes the last slot away if it is a hole, unless a hole has a number past those of all
+    /// pages: such numbers are made from the count of slots, which must not fall then.
+    pub(crate) fn trim(&mut self)
+        ensures list { IsTrimmed self.old.list self.new.list }
+        ensures spare { self.old.spare ≤ self.new.spare }
+    {
+        if self.is_named && has_hole_last(&self.slots) {
+            self.slots.pop();
+        }
+    }
+
     /// Squeezes the holes out, so that the pages move to the front.
     pub(crate) fn squeeze(&mut self)
         ensures list { self.new.list ≡ map Some (pages_in self.old.list) }
@@ -174,7 +194,16 @@ impl Slots {
                 ensures { (result ≡ is_some slot.old) × (slot.new ≡ slot.old) }
             { slot.is_some() },
         );
+        self.is_named = true;
     }
+}
+
+/// Whether the last slot is a hole.
+fn has_hole_last(slots: &SlotMap) -> bool
+    ensures { (result ≡ true)
+        ↔ (slice_get (values slots.now) (length slots.now.entries - 1) ≡ Some None) }
+{
+    matches!(slots.last(), Some((_, None)))
 }
 
 /// Puts a slot behind the others. It takes no memory.

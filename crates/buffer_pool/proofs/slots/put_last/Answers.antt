@@ -1,4 +1,4 @@
-use Rattle.std.proofs.Common.{◌≡◌, ◌∙◌, nat_eq}
+use Rattle.std.proofs.Common.{◌∙◌, nat_eq}
 use Rattle.std.specs.Prelude.{Err, IsOk, Ok, OnOk, Result}
 use Rattle.indexmap.proofs.CallerLemmas.{insert_entry-new}
 use Rattle.buffer_pool.proofs.slots.put_last.Goals as goal

@@ -3,7 +3,7 @@ use Rattle.std.specs.Prelude.{IsSome, None, is_some, slice_index_or}
 use Rattle.buffer_pool.specs.Frames.{FramesView, given_up}
 use Rattle.buffer_pool.specs.Pool.{is_clean_in}
 use Rattle.buffer_pool.specs.Slots.{pages_in}
-use Rattle.buffer_pool.proofs.Holes.{found_page, given_up_found, given_up_none}
+use Rattle.buffer_pool.proofs.Holes.{found_page, given_up_found, given_up_none, pages_trimmed}
 use Rattle.buffer_pool.proofs.frames.Frames.give_up.Goals as goal
 
 pub returns-in_err-place-clause-pages : goal.returns-in_err-place-clause-pages
@@ -21,7 +21,8 @@ pub returns-clause-pages : goal.returns-clause-pages
 returns-clause-pages c =
     let clean = is_clean_in c.args.states.now in
     let slots = c.args.self.now.slots in
-    ap pages_in c.take-frame.ensures.list
+    pages_trimmed c.take-frame.new.self.list c.trim.new.self.list c.trim.ensures.list
+    ∙ ap pages_in c.take-frame.ensures.list
     ∙ ap (λ (v : FramesView). pages_in (set v.slots c.in_ok-place.place None)) c.self.view_is
     ∙ sym (given_up_found clean slots c.in_ok-place.place (sym c.in_ok-place.ensures.place))
     ∙ ap (λ (v : FramesView). given_up clean (pages_in v.slots)) (sym c.self.view_is)

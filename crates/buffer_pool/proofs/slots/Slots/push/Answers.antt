@@ -1,13 +1,13 @@
-use Rattle.std.proofs.Common.{◌≡◌, ◌∙◌, ◌+◌, ◌*◌, ◌≤◌, ◌++◌, ◌∷◌, [], ℕ, List, ap, arith, false, length, map, nat_eq, set, subst, sym}
-use Rattle.std.specs.Map.{keys_of, values_of}
-use Rattle.std.specs.Prelude.{None, Option, Some, slice_get}
+use Rattle.std.proofs.Common.{◌≡◌, ◌∙◌, ◌+◌, ◌*◌, ◌≤◌, ◌++◌, ◌∷◌, [], ap, arith, length, subst, sym, true≢false}
+use Rattle.std.specs.Map.{values_of}
+use Rattle.std.specs.Prelude.{None, Some, slice_get}
 use Rattle.std.proofs.lemmas.Map.Entries.{length-values_of}
 use Rattle.page_core.specs.declared.page.Page.{Page}
 use Rattle.page_core.specs.declared.page.TheConstants.{MAX_PAGES}
 use Rattle.buffer_pool.specs.Frames.{is_resident}
-use Rattle.buffer_pool.specs.Slots.{AreCounted, AreUnderNumbers, SlotsView, pages_in}
+use Rattle.buffer_pool.specs.Slots.{AreCounted, ArePageNumbers, AreUnderNumbers, SlotsView, pages_in}
 use Rattle.buffer_pool.proofs.Holes.{counted_more}
-use Rattle.buffer_pool.proofs.Placed.{free_number, hole_found, pages_most, slots_few, under_more, under_past_hole}
+use Rattle.buffer_pool.proofs.Placed.{free_number, hole_found, pages_most, slots_few, under_more, under_past_hole, under_with}
 use Rattle.buffer_pool.proofs.Placed.{values_more, values_past_hole}
 use Rattle.buffer_pool.proofs.slots.Slots.push.Goals as goal
 use Rattle.buffer_pool.proofs.slots.Slots.push.Goals.{After-get_index_of-found, After-put_past_hole, In-Some}
@@ -38,6 +38,9 @@ invariant_of-self c =
       subst AreUnderNumbers (sym c.put_last.ensures) (under_more es c.self.invariant.0 n page same c.requires.within),
       subst (AreCounted (it.count + 1)) (sym (ap values_of c.put_last.ensures ∙ values_more es n page))
           (counted_more it.count (values_of es) page c.self.invariant.1),
+      λ named.
+          subst ArePageNumbers (sym c.put_last.ensures)
+          (under_with MAX_PAGES es n page same c.requires.within (omega arith) (c.self.invariant.2 named)),
     )
 
 pub put_past_hole-requires-clause-few : goal.put_past_hole-requires-clause-few
@@ -79,6 +82,7 @@ invariant_of-self-in-Some c =
       subst (AreCounted (it.count + 1)) (sym (slots (goal.at.invariant_of-self-in-Some c).After-put_past_hole
           (hole (goal.at.invariant_of-self-in-Some c).In-Some)))
           (counted_more it.count (values_of es) page c.self.invariant.1),
+      λ named. absurd (true≢false (sym named)),
     )
 
 pub returns-in-Some : goal.returns-in-Some

@@ -1,11 +1,13 @@
-use Rattle.std.proofs.Common.{◌≡◌, ◌∙◌, ap, arith, get_or, map, subst, sym}
+use Rattle.std.proofs.Common.{◌≡◌, ◌∙◌, ◌+◌, ap, arith, get_or, length, map, subst, sym}
 use Rattle.std.specs.Map.{keys_of, values_of}
 use Rattle.std.specs.Prelude.{None, Some}
 use Rattle.std.proofs.lemmas.Map.Entries.{length-values_of}
 use Rattle.std.proofs.lemmas.Option.{get_or_from_slice_get}
 use Rattle.indexmap.specs.IndexMap.{set_value_at}
+use Rattle.page_core.specs.declared.page.TheConstants.{MAX_PAGES}
 use Rattle.buffer_pool.specs.Slots.{AreCounted, SlotsView}
-use Rattle.buffer_pool.proofs.Placed.{counted_redone, no_place, only_there, redone, redone_at, redone_none, sought, under_redone, values_set}
+use Rattle.buffer_pool.proofs.Placed.{counted_redone, no_place, only_there, redone, redone_at, redone_none, sought, still_under}
+use Rattle.buffer_pool.proofs.Placed.{under_redone, values_set}
 use Rattle.buffer_pool.proofs.slots.Slots.redo.Goals as goal
 use Rattle.buffer_pool.proofs.slots.Slots.redo.Goals.{After-redo_slot}
 
@@ -51,6 +53,11 @@ invariant_of-self c =
     let next = c.args.next.now in
     let es = it.slots.entries in
     let done = (goal.at.invariant_of-self c).After-redo_slot in (
-      under_redone next es c.in-Some.place c.redo_slot.new.slot c.in-Some.ensures.within (after done) c.self.invariant.0,
+      still_under es c.in-Some.place c.redo_slot.new.slot
+          (under_redone (MAX_PAGES + length es) next es c.in-Some.place c.redo_slot.new.slot c.in-Some.ensures.within
+          (after done) c.self.invariant.0),
       subst (AreCounted it.count) (sym (slots done)) (counted_redone next it.count (values_of es) c.self.invariant.1),
+      λ named.
+          under_redone MAX_PAGES next es c.in-Some.place c.redo_slot.new.slot c.in-Some.ensures.within (after done)
+          (c.self.invariant.2 named),
     )

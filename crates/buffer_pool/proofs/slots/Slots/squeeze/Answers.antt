@@ -1,11 +1,10 @@
-use Rattle.std.proofs.Common.{◌≡◌, ◌∙◌, ℕ, ap, map, rules, subst, sym}
+use Rattle.std.proofs.Common.{◌≡◌, ◌∙◌, ap, map, rules, subst, sym}
 use Rattle.std.specs.Map.{values_of}
-use Rattle.std.specs.Prelude.{Option, Some, is_some}
+use Rattle.std.specs.Prelude.{Some, is_some}
 use Rattle.indexmap.proofs.CallerLemmas.{filter-RetainsPairs}
-use Rattle.page_core.specs.declared.page.Page.{Page}
-use Rattle.buffer_pool.specs.Slots.{AreCounted, AreUnderNumbers, SlotsView, pages_in}
+use Rattle.buffer_pool.specs.Slots.{AreCounted, ArePageNumbers, AreUnderNumbers, SlotsView, pages_in}
 use Rattle.buffer_pool.proofs.Holes.{counted_squeezed}
-use Rattle.buffer_pool.proofs.Placed.{Entry, kept, kept_slots, under_kept}
+use Rattle.buffer_pool.proofs.Placed.{Entry, kept, kept_slots, kept_under, under_kept}
 use Rattle.buffer_pool.proofs.slots.Slots.squeeze.Goals as goal
 use Rattle.buffer_pool.proofs.slots.Slots.squeeze.Goals.{After-retain}
 
@@ -23,6 +22,7 @@ invariant_of-self c =
     let after = (goal.at.invariant_of-self c).After-retain in (
       subst AreUnderNumbers (sym (left after)) (under_kept it.slots.entries c.self.invariant.0),
       subst (AreCounted it.count) (sym (slots_left after)) (counted_squeezed it.count (values_of it.slots.entries) c.self.invariant.1),
+      λ _. subst ArePageNumbers (sym (left after)) (kept_under it.slots.entries c.self.invariant.0),
     )
 
 pub returns-clause-list : goal.returns-clause-list
