@@ -10,10 +10,10 @@ use Rattle.fuzzy_ckpt.specs.declared.point.Point.{Point}
 use Rattle.fuzzy_ckpt.specs.LogCheckpoints.{IsLastPoint}
 use Rattle.image_copies.specs.Copy.{CopyView}
 use Rattle.copy_coverage.specs.Copied.{IsPoint}
-use Rattle.engine_restart.specs.Added.{BeginsIn, HasCheckpoint}
+use Rattle.engine_restart.specs.Added.{BeginsIn, IsCheckpointed}
 
 pub checkpoint_there : (log : Log) (last : Option Point) → IsLinked log.records → IsLastPoint log log.records last
-    → (is_some last ≡ true) ↔ HasCheckpoint log
+    → (is_some last ≡ true) ↔ IsCheckpointed log
 checkpoint_there log None linked none = (
   λ e. cc,
   λ (begin, end, is). let ends = end-of_complete log.records begin end is in absurd (none end begin ends.0 ends.1),
@@ -25,7 +25,7 @@ checkpoint_there log (Some point) linked last = (
 
 pub begins : (log : Log) (copy : CopyView) (begin redo end pages below : ℕ) → IsLog log → begin ≡ copy.begin
     → redo ≡ copy.redo → IsPoint begin redo → begin < end → end ≡ lsn_of (length log.records)
-    → pages ≡ length copy.pages → pages ≡ below → below ≡ count_below (counts_of log) begin → HasCheckpoint log
+    → pages ≡ length copy.pages → pages ≡ below → below ≡ count_below (counts_of log) begin → IsCheckpointed log
     → BeginsIn log copy
 begins log copy begin redo end pages below valid begin_is redo_is point lt end_is pages_are same below_is has = record {
   noted = subst (λ (n : ℕ). IsPoint n copy.redo) begin_is (subst (IsPoint begin) redo_is point);

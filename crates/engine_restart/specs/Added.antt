@@ -20,8 +20,8 @@ use Rattle.engine_restart.specs.declared.add_fault.AddCopyFault.TheVariants.{Out
 use Rattle.engine_restart.specs.declared.add_fault.AddCopyFault.TheVariants.{Refused, Unsound}
 
 -- some checkpoint of the log is complete
-abbrev pub HasCheckpoint : Log → Type 0
-HasCheckpoint log = (begin end : ℕ) × IsCompleteCheckpoint log.records begin end
+abbrev pub IsCheckpointed : Log → Type 0
+IsCheckpointed log = (begin end : ℕ) × IsCompleteCheckpoint log.records begin end
 
 -- the copy names a place in the log, has as many pages as the volume had there, and some checkpoint
 -- of the log is complete
@@ -29,7 +29,7 @@ pub record BeginsIn (log : Log) (copy : CopyView) : Type 0 where
   pub noted : IsPoint copy.begin copy.redo
   pub within : copy.begin < lsn_of (length log.records)
   pub whole : length copy.pages ≡ page_count_below log copy.begin
-  pub complete : HasCheckpoint log
+  pub complete : IsCheckpointed log
 
 -- the copies that a copy stands on, the first one first: none for a full one, and for an incremental
 -- one the chain that ends with its parent

@@ -9,7 +9,7 @@ ghost use Rattle.log_rules.specs.Linked.{IsLinked};
 ghost use Rattle.log_records.specs.Log.{IsLog, page_count};
 ghost use Rattle.log_records.specs.Record.{IsLsn};
 ghost use Rattle.page_redo.specs.PageRecords.{numbers_on};
-ghost use Rattle.engine_restart.specs.Added.{AreSoundBelow, BeginsIn, HasCheckpoint, IsLeastIn};
+ghost use Rattle.engine_restart.specs.Added.{AreSoundBelow, BeginsIn, IsCheckpointed, IsLeastIn};
 ghost use Rattle.engine_restart.specs.Added.{IsNotOf, MayAdd, StandsBehind};
 ghost use Rattle.engine_restart.specs.Chained.{IsNoChain, members};
 
@@ -39,7 +39,7 @@ fn is_point(begin: Lsn, redo: Lsn) -> bool
 /// Whether some checkpoint of a log is complete.
 fn has_checkpoint(log: &LogImage) -> bool
     requires linked { IsLinked log.now.records }
-    ensures { IsTrue result ↔ HasCheckpoint log.now }
+    ensures { IsTrue result ↔ IsCheckpointed log.now }
 {
     checkpoints_of(log).last.is_some()
 }

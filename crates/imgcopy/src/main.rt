@@ -34,7 +34,7 @@ use open_database::{OpenCall, OpenEnd, open_folder};
 use output::{Inputs, Limits, tell_output};
 use output_folder::OutputFolder;
 use page_core::{FaultName, Lsn, PageNo, TxnNo};
-use page_redo::{RedoFault, redo_stream};
+use page_redo::{StreamFault, redo_stream};
 use reasons::{Named, tell_redo};
 use redone_volume::RedoneVolume;
 use restores::{Outputs, restore};
@@ -176,8 +176,8 @@ fn redo(rt: &HostRuntime) -> ExitCode {
     );
     let status = status_of(rt, &done);
     match &done {
-        Err(RedoFault::ReadFault) => tell_unread(rt, &input),
-        Err(RedoFault::WriteFault(_)) => tell_unwritten(rt, &output),
+        Err(StreamFault::ReadFault) => tell_unread(rt, &input),
+        Err(StreamFault::WriteFault(_)) => tell_unwritten(rt, &output),
         Err(fault) => tell_redo(rt, fault),
         Ok(()) => {}
     }
@@ -203,8 +203,8 @@ fn redo_into(rt: &HostRuntime, path: &str, force: bool) -> ExitCode {
         Err(PutStoredFault::Unput(PutFault::Unwritten(fault))) => {
             let status = status_of(rt, &Err(fault));
             match &fault {
-                RedoFault::ReadFault => tell_unread(rt, &input),
-                RedoFault::WriteFault(_) => tell_output(rt, path, &notes),
+                StreamFault::ReadFault => tell_unread(rt, &input),
+                StreamFault::WriteFault(_) => tell_output(rt, path, &notes),
                 fault => tell_redo(rt, fault),
             }
             status
@@ -394,7 +394,7 @@ fn told_whole(rt: &impl Eprint, text: &impl Display) -> ExitCode
 }
 
 /// Tells a fault on standard error, and answers the program's status.
-fn status_of(rt: &impl Eprint, done: &Result<(), RedoFault>) -> ExitCode
+fn status_of(rt: &impl Eprint, done: &Result<(), StreamFault>) -> ExitCode
     ensures done { OnOk done.now (exit_status result ≡ 0) }
     ensures fault { IfErr done.now (λ _. exit_status result ≡ 2) }
 {

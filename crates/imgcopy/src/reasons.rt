@@ -154,15 +154,15 @@ impl fmt::Display for Reason {
 }
 
 /// What is wrong with the log on standard input, where that is a file that can be read again.
-pub fn tell_redo(rt: &HostRuntime, fault: &RedoFault) {
+pub fn tell_redo(rt: &HostRuntime, fault: &StreamFault) {
     if !is_regular(rt, STANDARD_INPUT) {
         return;
     }
     let reason = match fault {
-        RedoFault::BadHeader => reason_of_header(rt, STANDARD_INPUT, 0),
-        RedoFault::BadRecord(at) => reason_of_record(rt, STANDARD_INPUT, *at),
-        RedoFault::Torn(at) => reason_of_torn(rt, STANDARD_INPUT, *at),
-        RedoFault::BadChain(at) => reason_of_chain(rt, STANDARD_INPUT, *at),
+        StreamFault::BadHeader => reason_of_header(rt, STANDARD_INPUT, 0),
+        StreamFault::BadRecord(at) => reason_of_record(rt, STANDARD_INPUT, *at),
+        StreamFault::Torn(at) => reason_of_torn(rt, STANDARD_INPUT, *at),
+        StreamFault::BadChain(at) => reason_of_chain(rt, STANDARD_INPUT, *at),
         _ => None,
     };
     if let Some(reason) = reason {

@@ -1,6 +1,6 @@
 //! The volume of a log, as what a file is made of.
 
-use page_redo::{RedoFault, redo_stream};
+use page_redo::{StreamFault, redo_stream};
 use saved_files::Source;
 use std::alloc::Global;
 use std::io::{Read, Write};
@@ -14,13 +14,13 @@ pub struct RedoneVolume<R: Read + Drop> {
 impl<R: Read + Drop> Source for RedoneVolume<R> {
     ghost use Rattle.page_redo.specs.Stream.{Leaves, WritesVolume};
 
-    type Fault = RedoFault;
+    type Fault = StreamFault;
 
     ghost gives = { λ it. WritesVolume (R.remaining it.log) };
 
     ghost leaves = { λ it fault old new. Leaves (R.remaining it.log) old new fault };
 
-    fn write_to<W: Write>(&mut self, alloc: Global, writer: &mut W) -> Result<(), RedoFault> {
+    fn write_to<W: Write>(&mut self, alloc: Global, writer: &mut W) -> Result<(), StreamFault> {
         redo_stream(alloc, &mut self.log, writer)
     }
 }

@@ -4,7 +4,7 @@ use Rattle.std.specs.Prelude.{Option, IfSome}
 use Rattle.std.specs.List.{All}
 use Rattle.log_front.specs.Remains.{WasForced}
 use Rattle.log_store.specs.declared.master.Master.{Master}
-use Rattle.open_database.specs.Evidence.{Hears, IsFileWithin, IsWhole}
+use Rattle.open_database.specs.Evidence.{Hears, IsFileWithin, LacksNothing}
 use Rattle.open_database.specs.declared.closed_note.ClosedNote.{ClosedNote}
 use Rattle.open_database.specs.declared.evidence.Claim.{Claim}
 use Rattle.open_database.specs.declared.found_copies.CopyFile.{CopyFile}
@@ -17,7 +17,7 @@ pub heard_all : (end e0 e1 e2 e3 : ℕ) (c0 c1 c2 c3 c4 : List Claim) (note : Op
     → Hears c1 c2 (IfSome master (λ it. it.end < e1))
     → Hears c2 c3 (All (IsFileWithin e2) copies)
     → Hears c3 c4 ((at : ℕ) → e3 ≤ at → ¬ WasForced bytes at)
-    → c4 ≡ [] → IsWhole end note master copies bytes
+    → c4 ≡ [] → LacksNothing end note master copies bytes
 heard_all end e0 e1 e2 e3 c0 c1 c2 c3 c4 note master copies bytes at0 at1 at2 at3 notes masters files behind none =
     let fourth = behind none in
     let third = files fourth.0 in

@@ -45,7 +45,7 @@ abbrev pub IsFileWithin : ℕ → CopyFile → Type 0
 IsFileWithin end file = IsFoundWithin end file.found
 
 -- nothing that was found knows of a forced record that a log which ends here lacks
-pub record IsWhole (end : ℕ) (note : Option ClosedNote) (master : Option Master)
+pub record LacksNothing (end : ℕ) (note : Option ClosedNote) (master : Option Master)
     (copies : List CopyFile) (bytes : List ℕ) : Type 0 where
   pub closed : IfSome note (λ it. it.end ≤ end)
   pub named : IfSome master (λ it. it.end < end)

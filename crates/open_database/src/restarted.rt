@@ -10,7 +10,7 @@ ghost use Rattle.log_records.specs.Log.{IsLog, IsPageCount, log_bytes, page_coun
 ghost use Rattle.log_rules.specs.Linked.{IsLinked};
 ghost use Rattle.open_database.specs.Copies.{TakesUp, ids_unread};
 ghost use Rattle.saved_files.specs.Folder.{Changes, IsSame};
-ghost use Rattle.open_database.specs.Evidence.{IsWhole};
+ghost use Rattle.open_database.specs.Evidence.{LacksNothing};
 ghost use Rattle.open_database.specs.LeftOut.{IsKept, IsWorthKeeping, WasKept, behind};
 ghost use Rattle.open_database.specs.Master.{spelled};
 ghost use Rattle.open_database.specs.Opened.{GoesOnFromFile, GoesOnWith};
@@ -149,7 +149,7 @@ fn prepare<F: Folder>(
 ) -> Result<(), OpenFault>
     requires lasting { LastsOnFile remains.old.log.log remains.old.log.device }
     requires claimed { F.is_claimed folder.old }
-    ensures whole { OnOk result (call.now.salvage ≡ false → IsWhole (end_of remains.old.log.log)
+    ensures whole { OnOk result (call.now.salvage ≡ false → LacksNothing (end_of remains.old.log.log)
         remains.old.others.note (spelled remains.old.others.master)
         remains.old.others.copies.items remains.old.log.bytes.items) }
     ensures log { remains.new.log.log ≡ remains.old.log.log }
@@ -187,7 +187,7 @@ fn check_loss(
     call: &OpenCall<'_>,
     remains: &Remains,
 ) -> Result<Loss, OpenFault>
-    ensures { OnOk result (call.now.salvage ≡ false → IsWhole (end_of remains.now.log.log)
+    ensures { OnOk result (call.now.salvage ≡ false → LacksNothing (end_of remains.now.log.log)
         remains.now.others.note (spelled remains.now.others.master)
         remains.now.others.copies.items remains.now.log.bytes.items) }
 {
@@ -203,7 +203,7 @@ fn check_loss(
 }
 
 fn loss_of(alloc: Global, remains: &Remains) -> Result<Loss, AllocError>
-    ensures { IfOk result (λ loss. loss.claims.items ≡ [] → IsWhole (end_of remains.now.log.log)
+    ensures { IfOk result (λ loss. loss.claims.items ≡ [] → LacksNothing (end_of remains.now.log.log)
         remains.now.others.note (spelled remains.now.others.master)
         remains.now.others.copies.items remains.now.log.bytes.items) }
 {

@@ -10,8 +10,8 @@ use Rattle.log_rules.specs.Linked.{IsLinked}
 use Rattle.log_records.specs.Log.{Log, IsLog, SpellsLog, page_count}
 use Rattle.log_records.specs.Image.{redo_all}
 use Rattle.log_store.specs.Fault.{Refuses, GaveNoFault}
-use Rattle.page_redo.specs.declared.redo_fault.RedoFault.{RedoFault}
-use Rattle.page_redo.specs.declared.redo_fault.RedoFault.TheVariants as fault
+use Rattle.page_redo.specs.declared.stream_fault.StreamFault.{StreamFault}
+use Rattle.page_redo.specs.declared.stream_fault.StreamFault.TheVariants as fault
 
 -- the bytes spell the volume that a log makes
 abbrev pub SpellsVolumeOf : Log → List ℕ → Type 0
@@ -49,7 +49,7 @@ abbrev pub FailedUnread : Option (List ℕ) → Option (List ℕ) → Type 0
 FailedUnread old new = GaveNoFault [] old new log.ReadFault
 
 -- a fault of reading a log, as the program reports it
-abbrev pub reported : LogReadFault → RedoFault
+abbrev pub reported : LogReadFault → StreamFault
 reported log.OutOfMemory = fault.OutOfMemory
 reported log.BadHeader = fault.BadHeader
 reported (log.BadRecord at) = fault.BadRecord at
@@ -59,7 +59,7 @@ reported log.ReadFault = fault.ReadFault
 reported log.TooLong = fault.TooLong
 
 -- what is printed of a fault
-abbrev pub line_of : RedoFault → List ℕ
+abbrev pub line_of : StreamFault → List ℕ
 line_of fault.OutOfMemory = fault_line name.OutOfMemory
 line_of (fault.WriteFault done) = fault_line_with name.WriteFault done
 line_of fault.BadHeader = fault_line name.BadHeader
@@ -70,7 +70,7 @@ line_of fault.TooLong = fault_line name.TooLong
 line_of (fault.BadChain at) = fault_line_with name.BadChain at
 
 -- what a fault says, and what stands after it
-abbrev pub Leaves : Option (List ℕ) → Option (List ℕ) → Option (List ℕ) → RedoFault → Type 0
+abbrev pub Leaves : Option (List ℕ) → Option (List ℕ) → Option (List ℕ) → StreamFault → Type 0
 Leaves input old new fault.OutOfMemory = Keeps old new
 Leaves input old new (fault.WriteFault done) = WritesPart input old new done
 Leaves input old new fault.BadHeader = WritesNone input old new log.BadHeader

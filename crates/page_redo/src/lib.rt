@@ -1,4 +1,4 @@
-//! Redo, page by page.
+//! Redo: of pages, of the changes of a log, and of a whole log to the bytes of its volume.
 #![tactic(auto)]
 
 mod changes;
@@ -7,8 +7,8 @@ mod page_records;
 mod placed_change;
 mod rebuild;
 mod redo;
-mod redo_fault;
 mod stream;
+mod stream_fault;
 mod threads;
 mod volume;
 mod volume_output;
@@ -19,8 +19,8 @@ pub use page_records::{PageRecords, by_page};
 pub use placed_change::PlacedChange;
 pub use rebuild::rebuild_page;
 pub use redo::redo_page;
-pub use redo_fault::RedoFault;
 pub use stream::redo_stream;
+pub use stream_fault::StreamFault;
 pub use threads::{MANY_RECORDS, redo_by_page, redo_pages};
 pub use volume::redo_pages_alone;
 pub use volume_output::write_volume;

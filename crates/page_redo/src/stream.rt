@@ -5,7 +5,7 @@ ghost use Rattle.std.specs.Io.KnownBytes.{IsAtEnd};
 ghost use Rattle.page_core.specs.Input.{StaysKnown};
 ghost use Rattle.page_redo.specs.Stream.{WritesVolume, Leaves, FailedUnread};
 
-use crate::redo_fault::RedoFault;
+use crate::stream_fault::StreamFault;
 use crate::volume_output::write_volume;
 use log_store::{Scan, scan_log};
 use page_core::{PAGE_BYTES, zeros};
@@ -24,7 +24,7 @@ pub fn redo_stream<R: Read, W: Write>(
     alloc: Global,
     reader: &mut R,
     writer: &mut W,
-) -> Result<(), RedoFault>
+) -> Result<(), StreamFault>
     ensures known { StaysKnown (R.remaining reader.old) (R.remaining reader.new) }
     ensures ok { OnOk result
         (WritesVolume (R.remaining reader.old) (W.contents writer.old) (W.contents writer.new)) }
@@ -32,10 +32,10 @@ pub fn redo_stream<R: Read, W: Write>(
     ensures err { IfErr result
         (Leaves (R.remaining reader.old) (W.contents writer.old) (W.contents writer.new)) }
     // Where the reader failed, what it gave until then holds no fault.
-    ensures unread { result ≡ Err RedoFault.ReadFault
+    ensures unread { result ≡ Err StreamFault.ReadFault
         → FailedUnread (R.remaining reader.old) (R.remaining reader.new) }
 {
     let scan: Scan<()> = scan_log(alloc, reader)?;
     let mut buffer = zeros(alloc, BUFFER_PAGES * PAGE_BYTES)?;
-    write_volume(writer, scan.history.pages(), &mut buffer).map_err(RedoFault::WriteFault)
+    write_volume(writer, scan.history.pages(), &mut buffer).map_err(StreamFault::WriteFault)
 }

@@ -4,7 +4,7 @@
 use crate::asserts::{assert_fault, assert_texts, same_at};
 use crate::groups::{Groups, assert_bytes, bytes_of};
 use page_core::Lsn;
-use page_redo::{RedoFault, redo_stream};
+use page_redo::{StreamFault, redo_stream};
 use std::io;
 use std::io::{ErrorKind, Read, Write};
 use std::process::Abort;
@@ -480,15 +480,15 @@ fn tries_an_interrupted_write_again(rt: HostRuntime) {
     assert_written(&rt, FOUR_RECORDS, &volume, &OFTEN_INTERRUPTED);
 }
 
-const FAULTS: [(RedoFault, &str); 8] = [
-    (RedoFault::OutOfMemory, "E1 OutOfMemory"),
-    (RedoFault::WriteFault(7), "E29 WriteFault 7"),
-    (RedoFault::BadHeader, "E30 BadHeader"),
-    (RedoFault::BadRecord(Lsn(128)), "E31 BadRecord 128"),
-    (RedoFault::Torn(Lsn(256)), "E32 Torn 256"),
-    (RedoFault::ReadFault, "E33 ReadFault"),
-    (RedoFault::TooLong, "E34 TooLong"),
-    (RedoFault::BadChain(Lsn(256)), "E35 BadChain 256"),
+const FAULTS: [(StreamFault, &str); 8] = [
+    (StreamFault::OutOfMemory, "E1 OutOfMemory"),
+    (StreamFault::WriteFault(7), "E29 WriteFault 7"),
+    (StreamFault::BadHeader, "E30 BadHeader"),
+    (StreamFault::BadRecord(Lsn(128)), "E31 BadRecord 128"),
+    (StreamFault::Torn(Lsn(256)), "E32 Torn 256"),
+    (StreamFault::ReadFault, "E33 ReadFault"),
+    (StreamFault::TooLong, "E34 TooLong"),
+    (StreamFault::BadChain(Lsn(256)), "E35 BadChain 256"),
 ];
 
 #[test]

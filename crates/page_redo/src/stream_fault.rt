@@ -8,7 +8,7 @@ use std::fmt;
 
 /// A fault of redo. Its text is its line.
 #[derive(Clone, Copy, Debug, PartialEq, Eq)]
-pub enum RedoFault {
+pub enum StreamFault {
     /// Memory ran out. Nothing was written.
     OutOfMemory,
     /// The writer failed after so many bytes, or took none.
@@ -27,7 +27,7 @@ pub enum RedoFault {
     BadChain(Lsn),
 }
 
-impl fmt::Display for RedoFault {
+impl fmt::Display for StreamFault {
     ghost use Rattle.std.specs.Prelude.{Some};
     ghost use Rattle.page_redo.specs.Stream.{line_of};
 
@@ -35,20 +35,20 @@ impl fmt::Display for RedoFault {
 
     fn fmt<W: fmt::Write>(&self, f: &mut fmt::Formatter<W>) -> fmt::Result {
         match self {
-            RedoFault::OutOfMemory => write!(f, "{}", FaultName::OutOfMemory),
-            RedoFault::WriteFault(done) => write!(f, "{} {done}", FaultName::WriteFault),
-            RedoFault::BadHeader => write!(f, "{}", FaultName::BadHeader),
-            RedoFault::BadRecord(at) => {
+            StreamFault::OutOfMemory => write!(f, "{}", FaultName::OutOfMemory),
+            StreamFault::WriteFault(done) => write!(f, "{} {done}", FaultName::WriteFault),
+            StreamFault::BadHeader => write!(f, "{}", FaultName::BadHeader),
+            StreamFault::BadRecord(at) => {
                 let at = at.0;
                 write!(f, "{} {at}", FaultName::BadRecord)
             }
-            RedoFault::Torn(at) => {
+            StreamFault::Torn(at) => {
                 let at = at.0;
                 write!(f, "{} {at}", FaultName::Torn)
             }
-            RedoFault::ReadFault => write!(f, "{}", FaultName::ReadFault),
-            RedoFault::TooLong => write!(f, "{}", FaultName::TooLong),
-            RedoFault::BadChain(at) => {
+            StreamFault::ReadFault => write!(f, "{}", FaultName::ReadFault),
+            StreamFault::TooLong => write!(f, "{}", FaultName::TooLong),
+            StreamFault::BadChain(at) => {
                 let at = at.0;
                 write!(f, "{} {at}", FaultName::BadChain)
             }
@@ -56,34 +56,34 @@ impl fmt::Display for RedoFault {
     }
 }
 
-impl Error for RedoFault {}
+impl Error for StreamFault {}
 
-impl From<AllocError> for RedoFault {
+impl From<AllocError> for StreamFault {
     ghost use Rattle.std.specs.Prelude.{◌≡◌};
-    ghost use Rattle.page_redo.specs.declared.redo_fault.RedoFault.TheVariants.{OutOfMemory};
+    ghost use Rattle.page_redo.specs.declared.stream_fault.StreamFault.TheVariants.{OutOfMemory};
 
     ghost from_gives = { λ _ e. e ≡ OutOfMemory };
 
-    fn from(_error: AllocError) -> RedoFault {
-        RedoFault::OutOfMemory
+    fn from(_error: AllocError) -> StreamFault {
+        StreamFault::OutOfMemory
     }
 }
 
-impl From<LogReadFault> for RedoFault {
+impl From<LogReadFault> for StreamFault {
     ghost use Rattle.std.specs.Prelude.{◌≡◌};
     ghost use Rattle.page_redo.specs.Stream.{reported};
 
     ghost from_gives = { λ why e. e ≡ reported why };
 
-    fn from(why: LogReadFault) -> RedoFault {
+    fn from(why: LogReadFault) -> StreamFault {
         match why {
-            LogReadFault::OutOfMemory => RedoFault::OutOfMemory,
-            LogReadFault::BadHeader => RedoFault::BadHeader,
-            LogReadFault::BadRecord(at) => RedoFault::BadRecord(at),
-            LogReadFault::BadChain(at) => RedoFault::BadChain(at),
-            LogReadFault::Torn(at) => RedoFault::Torn(at),
-            LogReadFault::ReadFault => RedoFault::ReadFault,
-            LogReadFault::TooLong => RedoFault::TooLong,
+            LogReadFault::OutOfMemory => StreamFault::OutOfMemory,
+            LogReadFault::BadHeader => StreamFault::BadHeader,
+            LogReadFault::BadRecord(at) => StreamFault::BadRecord(at),
+            LogReadFault::BadChain(at) => StreamFault::BadChain(at),
+            LogReadFault::Torn(at) => StreamFault::Torn(at),
+            LogReadFault::ReadFault => StreamFault::ReadFault,
+            LogReadFault::TooLong => StreamFault::TooLong,
         }
     }
 }
