@@ -1,9 +1,9 @@
 -- Fronts of bytes, and the faults behind them.
-use Rattle.std.proofs.Common.{◌≡◌, ℕ, ◌+◌, ◌%◌, ◌<◌, ◌≤◌, List, ◌++◌, length, get_or, take, drop, refl}
+use Rattle.std.proofs.Common.{◌≡◌, ℕ, ◌+◌, ◌%◌, ◌<◌, ◌≤◌, List, ◌++◌, length, get_or, take, refl}
 use Rattle.std.proofs.Common.{sym, ap, subst, ◌∙◌, arith, inl, inr}
 use Rattle.std.specs.Prelude.{slice_range, Option, Some, None}
 use Rattle.std.proofs.lemmas.Bool.{cases_lt}
-use Rattle.std.proofs.lemmas.List.{length-append, length-take, take-append-drop, take-append-le, take-take, take_all}
+use Rattle.std.proofs.lemmas.List.{length-take, take-append-le, take-take, take_all}
 use Rattle.log_records.specs.declared.limits.TheConstants.{MAX_LOG_BYTES}
 use Rattle.log_records.specs.declared.record.Record.{Record}
 use Rattle.log_records.specs.declared.record.Record.TheVariants.{Begin}
@@ -11,19 +11,17 @@ use Rattle.log_records.specs.Record.{record_bytes}
 use Rattle.log_records.specs.Log.{IsOfFormat, Log, SpellsLog, StandsAt, format_in, lsn_of, page_count, page_count_at}
 use Rattle.log_records.specs.PageCount.{GivesMore}
 use Rattle.log_records.proofs.Public.{same_record}
-use Rattle.log_records.proofs.Public.{format_in-append, format_in-take, format_of_log, header_of_log, length-log, range_in}
+use Rattle.log_records.proofs.Public.{format_in-take, format_of_log, header_of_log, length-log}
 use Rattle.log_records.proofs.Public.{record_of_log, same_log, spells_cut}
 use Rattle.log_rules.specs.Linked.{IsLinked, MayFollow}
 use Rattle.log_store.specs.declared.fault.LogReadFault.{LogReadFault}
-use Rattle.log_store.specs.declared.fault.LogReadFault.TheVariants as whole
-use Rattle.log_store.specs.Fault.{HasFault, IsFirstFault, IsHeader, IsOutside, MayComeBehind}
+use Rattle.log_store.specs.Fault.{HasFault, IsFirstFault, IsHeader, MayComeBehind}
 use Rattle.log_store.specs.Fault.{Refuses, offset_of}
 use Rattle.log_store.proofs.Public.{break_at, range_of_front}
-use Rattle.log_store.proofs.Public.{refuses_more}
 use Rattle.log_front.specs.declared.cut.Cut.{Cut}
 use Rattle.log_front.specs.declared.cut.CutReason.{CutReason}
 use Rattle.log_front.specs.declared.cut.CutReason.TheVariants.{Torn, BadRecord, BadChain, TooLong}
-use Rattle.log_front.specs.Front.{FoundFront, HasNoFront, HasRoom, IsCut, IsFront, IsFrontOf, IsLeftOut, IsLongestFront}
+use Rattle.log_front.specs.Front.{HasNoFront, HasRoom, IsCut, IsFront, IsFrontOf, IsLeftOut, IsLongestFront}
 use Rattle.log_front.specs.Front.{StandsBehind, end_of, fault_of}
 
 -- ---- one front
@@ -236,100 +234,10 @@ first_of_refused bytes fault at BadRecord e h = subst (Refuses bytes) e h
 first_of_refused bytes fault at BadChain e h = subst (Refuses bytes) e h
 first_of_refused bytes fault at TooLong e h = subst (Refuses bytes) e h
 
--- ---- nothing of the bytes before their first fault is at fault
-
-later : (bytes : List ℕ) (at : ℕ) (why : CutReason) → at ≡ offset_of (fault_of at why)
-    → IsFirstFault bytes (fault_of at why) → (other : LogReadFault)
-    → IsFirstFault (take at bytes ++ drop at bytes) other → at ≤ offset_of other
-later bytes at why e first other on =
-    let whole_on : IsFirstFault bytes other =
-    subst (λ (bs : List ℕ). IsFirstFault bs other) (take-append-drop at bytes) on in
-    omega (arith, e, first.first other whole_on.there)
-
-pub only_outside : (bytes : List ℕ) (at : ℕ) (why : CutReason) → at ≡ offset_of (fault_of at why)
-    → IsFirstFault bytes (fault_of at why) → (other : LogReadFault) → Refuses (take at bytes) other → IsOutside other
-only_outside bytes at why e first whole.OutOfMemory h = tt
-only_outside bytes at why e first whole.ReadFault h = tt
-only_outside bytes at why e first whole.BadHeader h =
-    let place = cut_place bytes at why e first.there in
-    let within = place.within in
-    let past = place.past_header in
-    let past_it = later bytes at why e first whole.BadHeader
-    (refuses_more (take at bytes) (drop at bytes) whole.BadHeader h (omega (arith, within, past, length-take at bytes))) in
-    omega (arith, past, past_it)
-only_outside bytes at why e first (whole.BadRecord n) h =
-    let past_it = later bytes at why e first (whole.BadRecord n)
-    (refuses_more (take at bytes) (drop at bytes) (whole.BadRecord n) h tt) in
-    let fits = h.there.whole in
-    omega (arith, past_it, fits, length-take at bytes)
-only_outside bytes at why e first (whole.BadChain n) h =
-    let past_it = later bytes at why e first (whole.BadChain n)
-    (refuses_more (take at bytes) (drop at bytes) (whole.BadChain n) h tt) in
-    let fits = (break_at (take at bytes) n h.there).0 in
-    omega (arith, past_it, fits, length-take at bytes)
-only_outside bytes at why e first (whole.Torn n) h =
-    let place = cut_place bytes at why e first.there in
-    let within = place.within in
-    let aligned = place.aligned in
-    let other = h.there.0.aligned in
-    omega (arith, within, aligned, other, h.there.1, h.there.2, length-take at bytes)
-only_outside bytes at why e first whole.TooLong h =
-    let place = cut_place bytes at why e first.there in
-    let most = place.most in
-    omega (arith, most, h.there, length-take at bytes)
-
 -- ---- bytes that go on
-
-less_stands : (given rest : List ℕ) (log : Log) (r : Record) → end_of log + 64 ≤ length given
-    → StandsBehind (given ++ rest) log r → StandsBehind given log r
-less_stands given rest log r fits s = record {
-  stands = s.stands;
-  of_format = subst (λ f. IsOfFormat f r) (format_in-append given rest (omega (arith, fits))) s.of_format;
-  spelled = sym (range_in given rest (end_of log) (end_of log + 64) (omega arith) fits) ∙ s.spelled;
-}
-
-more_stands : (given rest : List ℕ) (log : Log) (r : Record) → end_of log + 64 ≤ length given
-    → StandsBehind given log r → StandsBehind (given ++ rest) log r
-more_stands given rest log r fits s = record {
-  stands = s.stands;
-  of_format = subst (λ f. IsOfFormat f r) (sym (format_in-append given rest (omega (arith, fits)))) s.of_format;
-  spelled = range_in given rest (end_of log) (end_of log + 64) (omega arith) fits ∙ s.spelled;
-}
 
 pub more_front : (given rest : List ℕ) (log : Log) → IsFront given log → IsFront (given ++ rest) log
 more_front given rest log f = record {
   spells = subst (SpellsLog log) (sym (take-append-le (end_of log) given rest (front_fits given log f))) f.spells;
   linked = f.linked;
 }
-
-more_left_out : (given rest : List ℕ) (log : Log) (why : CutReason) → MAX_LOG_BYTES < length given
-    → IsLeftOut given log why → IsLeftOut (given ++ rest) log why
-more_left_out given rest log Torn long h = absurd (omega (arith, long, h.0, h.2))
-more_left_out given rest log BadRecord long h = (
-  h.0,
-  omega (arith, h.1, length-append given rest),
-  λ r s. h.2 r (less_stands given rest log r h.1 s),
-)
-more_left_out given rest log BadChain long h =
-    (h.0, (h.1.0, more_stands given rest log h.1.0 (omega (arith, long, h.0)) h.1.1, h.1.2))
-more_left_out given rest log TooLong long h = (h.0, omega (arith, h.1, length-append given rest))
-
-more_cut : (given rest : List ℕ) (log : Log) (cut : Option Cut) → MAX_LOG_BYTES < length given
-    → IsCut given log cut → IsCut (given ++ rest) log cut
-more_cut given rest log None long h = absurd (omega (arith, long, length-log log given h, h.valid.count))
-more_cut given rest log (Some cut) long h = (h.0, more_left_out given rest log cut.why long h.1)
-
--- a front of more bytes than the longest log has is that of all that begin with them
-pub found_more : (given rest : List ℕ) (it : FoundFront) → MAX_LOG_BYTES < length given → IsFrontOf given it
-    → IsFrontOf (given ++ rest) it
-found_more given rest it long h =
-    found (given ++ rest) it.log it.cut (more_front given rest it.log h.longest.front)
-    (more_cut given rest it.log it.cut long h.cut)
-
-pub none_more : (given rest : List ℕ) → MAX_LOG_BYTES < length given → HasNoFront given → HasNoFront (given ++ rest)
-none_more given rest long none log f =
-    let few = f.spells.valid.count in
-    none log (record {
-      spells = subst (SpellsLog log) (take-append-le (end_of log) given rest (omega (arith, few, long))) f.spells;
-      linked = f.linked;
-    })

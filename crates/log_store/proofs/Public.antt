@@ -3,8 +3,8 @@
 -- Which fault is the first.
 pub use Rattle.log_store.proofs.Faults.{StartsWith, break_at, first_chain, first_record}
 pub use Rattle.log_store.proofs.Faults.{first_too_long, first_torn, none_in_log, range_of_front}
--- What a fault of the bytes so far says of the whole input.
-pub use Rattle.log_store.proofs.Inputs.{at_some, refuses_more}
+-- What is said of an input that is known.
+pub use Rattle.log_store.proofs.Inputs.{at_some}
 -- The bytes of master records.
 pub use Rattle.log_store.proofs.Masters.{length-master_bytes, same_master}
 -- The redo of records by their numbers, one after another.

@@ -2,12 +2,12 @@
 use Rattle.std.proofs.Common.{◌≡◌, ℕ, ◌+◌, ◌-◌, ◌*◌, ◌^◌, ◌<◌, ◌≤◌, List, [], ◌∷◌, ◌++◌, length, take, drop, refl}
 use Rattle.std.proofs.Common.{sym, ap, subst, ◌∙◌, arith, inl, inr, get_or, below_more}
 use Rattle.std.specs.Prelude.{slice_range}
-use Rattle.std.specs.Prelude.{Option}
+use Rattle.std.specs.Prelude.{Option, None, Some, IfSome}
 use Rattle.std.specs.Io.KnownBytes.{Consumes}
 pub use Rattle.page_core.proofs.Public.{if_err, on_ok, of_rest, of_all}
 use Rattle.std.proofs.lemmas.Bool.{cases_lt}
 use Rattle.std.proofs.lemmas.List.{append_assoc, append-nil, get_or_append_left, get_or_push, nil_from_length, take_all, take_at, drop_at}
-use Rattle.std.proofs.lemmas.List.{length-append, length_push, flat_map_more}
+use Rattle.std.proofs.lemmas.List.{length-append, length_push, flat_map_more, take-append-drop}
 use Rattle.std.proofs.KnownBytes.{Consumes-trans}
 use Rattle.log_store.specs.declared.fault.LogReadFault.{LogReadFault}
 use Rattle.log_store.specs.declared.fault.LogReadFault.TheVariants.{OutOfMemory, BadHeader, BadRecord, BadChain, Torn}
@@ -23,7 +23,8 @@ use Rattle.log_records.specs.Log.{with_next}
 use Rattle.log_rules.specs.History.{IsMadeOf, Made}
 use Rattle.log_rules.specs.Linked.{IsLinked, MayFollow}
 use Rattle.log_store.specs.Fault.{IsFirstFault, Refuses, HoldsNoFault, GaveNoFault}
-use Rattle.log_store.specs.Scan.{HasTaken}
+use Rattle.log_store.specs.Fault.{offset_of}
+use Rattle.log_store.specs.Scan.{HasAll, HasStopped, HasTaken}
 use Rattle.log_records.proofs.Public.{length-redo_all}
 use Rattle.log_records.proofs.Public.{format_in-append, format_in-header, format_of_log, length-header, length-log}
 use Rattle.log_records.proofs.Public.{page_count-is_count}
@@ -200,6 +201,41 @@ module _ {S : Type 0} (holds : S → Log → Type 0) (format : Format) (sink : S
       (bad_chain taken.log r given unit rest taken.spells taken.linked (omega (arith, taken.count_is))
       (stands_next r stands) (subst (λ f. IsOfFormat f r) (sym taken.format_is) of_format) e breaks)
 
+  -- all that was given is of that log
+  pub all_taken : HasAll holds sink made given
+  all_taken = record {
+    log = taken.log;
+    held = taken.held;
+    spells = taken.spells;
+    linked = taken.linked;
+    made_of = taken.made_of;
+  }
+
+  pub length-taken : length given ≡ 64 * (count + 1)
+  length-taken = omega (arith, length-log taken.log given taken.spells, taken.count_is)
+
+  pub few_taken : count ≤ 1048576
+  few_taken = omega (arith, taken.count_is, taken.spells.valid.count)
+
+-- the records before a fault were taken
+pub stopped_at : {S : Type 0} (holds : S → Log → Type 0) (format : Format) (sink : S) (made : Made) (count : ℕ)
+    (given read behind : List ℕ) (old new : Option (List ℕ)) (fault : LogReadFault)
+    → HasTaken holds format sink made count (given ++ read) → Consumes old new (read ++ behind)
+    → offset_of fault ≡ 64 * (count + 1) → HasStopped holds sink made given old new fault
+stopped_at holds format sink made count given read behind old new fault taken consumed at = record {
+  read = read;
+  behind = behind;
+  consumed = consumed;
+  all = all_taken holds format sink made count (given ++ read) taken;
+  at = length-taken holds format sink made count (given ++ read) taken ∙ sym at;
+}
+
+-- what was read is cut in two
+pub cut_read : (read bytes : List ℕ) (n : ℕ) → read ++ bytes ≡ (read ++ take n bytes) ++ drop n bytes
+cut_read read bytes n =
+    ap (λ (bs : List ℕ). read ++ bs) (sym (take-append-drop n bytes))
+    ∙ sym (append_assoc read (take n bytes) (drop n bytes))
+
 -- ---- what follows the whole records
 
 regroup : (header read pending rest : List ℕ)
@@ -268,3 +304,16 @@ gave_more old mid new header (BadRecord at) taken gave = tt
 gave_more old mid new header (BadChain at) taken gave = tt
 gave_more old mid new header (Torn at) taken gave = tt
 gave_more old mid new header TooLong taken gave = tt
+
+-- what is said of an input twice
+pub both_some : (input : Option (List ℕ)) (P Q : List ℕ → Type 0) → IfSome input P → IfSome input Q
+    → IfSome input (λ bytes. P bytes × Q bytes)
+both_some None P Q p q = tt
+both_some (Some bytes) P Q p q = (p, q)
+
+-- the bytes before a fault
+pub before_fault : (header read behind rest : List ℕ) (n : ℕ) → length (header ++ read) ≡ n
+    → header ++ read ≡ take n ((header ++ (read ++ behind)) ++ rest)
+before_fault header read behind rest n at =
+    let regrouped : (header ++ read) ++ (behind ++ rest) ≡ (header ++ (read ++ behind)) ++ rest = simp append_assoc in
+    sym (take_at (header ++ read) (behind ++ rest) n at) ∙ ap (take n) regrouped

@@ -91,6 +91,13 @@ IsOutside OutOfMemory = Unit {0}
 IsOutside ReadFault = Unit {0}
 IsOutside of_the_bytes = ⊥
 
+-- the fault lies behind a log: its bytes are right, and are followed by what is not
+abbrev pub IsBehindLog : LogReadFault → Type 0
+IsBehindLog OutOfMemory = ⊥
+IsBehindLog BadHeader = ⊥
+IsBehindLog ReadFault = ⊥
+IsBehindLog behind = Unit {0}
+
 -- any fault but the reader's
 abbrev pub IsNoReadFault : LogReadFault → Type 0
 IsNoReadFault ReadFault = ⊥

@@ -32,5 +32,5 @@ pub use master::{MASTER_BYTES, Master, decode_master, encode_master, masters_are
 pub use mem_device::MemDevice;
 pub use read::read_log;
 pub use redo::{redo_change, redo_numbered, redo_record};
-pub use scan::{Scan, scan_log};
+pub use scan::{Reached, Scan, scan_log, scan_to_fault};
 pub use sink::RecordSink;

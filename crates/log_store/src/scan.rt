@@ -1,15 +1,16 @@
 //! Reads a log piece by piece.
 
 ghost use Rattle.std.specs.Prelude.{ℕ, ◌≡◌, ◌+◌, ◌*◌, ◌/◌, ◌<◌, ◌≤◌, ◌++◌, ◌-◌, [], List};
-ghost use Rattle.std.specs.Prelude.{length, take, drop, IfOk, IfErr, IfSome, OnOk};
+ghost use Rattle.std.specs.Prelude.{◌↔◌, length, take, drop, IfOk, IfErr, IfSome, IsTrue, OnOk};
 ghost use Rattle.std.specs.Io.KnownBytes.{Consumes, IsAtEnd};
 ghost use Rattle.page_core.specs.Input.{StaysKnown};
 ghost use Rattle.log_rules.specs.History.{IsMadeOf};
 ghost use Rattle.log_rules.specs.Linked.{IsLinked};
 ghost use Rattle.log_records.specs.Log.{IsLog, IsOfFormat, Log, SpellsLog, StandsAt};
 ghost use Rattle.log_records.specs.Record.{record_bytes};
-ghost use Rattle.log_store.specs.Fault.{Refuses, GaveNoFault, IsNoReadFault};
-ghost use Rattle.log_store.specs.Scan.{HasAll, HasTaken};
+ghost use Rattle.log_store.specs.Fault.{Refuses, GaveNoFault, IsBehindLog, IsNoReadFault, offset_of};
+ghost use Rattle.log_store.specs.Scan.{HasAll, HasGivenTo, HasStopped, HasTaken, HasTakenBefore};
+ghost use Rattle.log_store.specs.Scan.{IsReadTo};
 
 use crate::fault::LogReadFault;
 use crate::history::History;
@@ -27,6 +28,14 @@ use std::io::Read;
 pub struct Scan<S> {
     pub sink: S,
     pub history: History,
+}
+
+/// The result of reading a log as far as it is right: what its records lead to, and its first fault,
+/// if it has one.
+#[derive(Drop)]
+pub struct Reached<S> {
+    pub scan: Scan<S>,
+    pub fault: Option<LogReadFault>,
 }
 
 /// How many bytes it is asked for at once, at most.
@@ -67,6 +76,8 @@ fn take_found<S: RecordSink>(
         → IsOfFormat format found.now
         → HasTaken S.holds format sink.old history.old count given
         → Refuses (given ++ (record_bytes found.now ++ rest)) fault) }
+    ensures stopped { IfErr result (λ fault. IsBehindLog fault → (sink.new ≡ sink.old)
+        × (history.new ≡ history.old) × (offset_of fault ≡ LSN_STEP * (count + 1))) }
     ensures of_bytes { IfErr result IsNoReadFault }
 {
     if !history.follow(found)? {
@@ -92,6 +103,8 @@ fn take_record<S: RecordSink>(
     ensures first { IfErr result (λ fault. (given rest : List ℕ)
         → HasTaken S.holds format sink.old history.old count given
         → Refuses (given ++ (bytes.now ++ rest)) fault) }
+    ensures stopped { IfErr result (λ fault. IsBehindLog fault → (sink.new ≡ sink.old)
+        × (history.new ≡ history.old) × (offset_of fault ≡ LSN_STEP * (count + 1))) }
     ensures of_bytes { IfErr result IsNoReadFault }
 {
     if count >= MAX_RECORDS {
@@ -128,6 +141,9 @@ fn take_records<S: RecordSink>(
     ensures first { IfErr result (λ fault. (given rest : List ℕ)
         → HasTaken S.holds format sink.old history.old count given
         → Refuses (given ++ (bytes.now ++ rest)) fault) }
+    ensures stopped { IfErr result (λ fault. (given : List ℕ)
+        → HasTaken S.holds format sink.old history.old count given → IsBehindLog fault
+        → HasTakenBefore S.holds format sink.new history.new count given bytes.now fault) }
     ensures of_bytes { IfErr result IsNoReadFault }
 {
     let whole = bytes.len() / RECORD_BYTES;
@@ -150,6 +166,7 @@ fn read_header<R: Read>(reader: &mut R, header: &mut [u8]) -> Result<u32, LogRea
     ensures ok { OnOk result (Consumes (R.remaining reader.old)
         (R.remaining reader.new) header.new) }
     ensures turns { IfOk result (λ turns. turns ≤ MAX_TURNS) }
+    ensures err { IfErr result (λ fault. ¬ IsBehindLog fault) }
     ensures first { IfErr result (λ fault. IfSome (R.remaining reader.old)
         (λ input. Refuses input fault)) }
     ensures unread { IfErr result (GaveNoFault [] (R.remaining reader.old)
@@ -192,6 +209,10 @@ fn read_records<R: Read, S: RecordSink>(
     ensures unread { IfErr result (λ fault. (given : List ℕ)
         → HasTaken S.holds format scan.old.sink scan.old.history 0 given
         → GaveNoFault given (R.remaining reader.old) (R.remaining reader.new) fault) }
+    ensures stopped { IfErr result (λ fault. (given : List ℕ)
+        → HasTaken S.holds format scan.old.sink scan.old.history 0 given → IsBehindLog fault
+        → HasStopped S.holds scan.new.sink scan.new.history given (R.remaining reader.old)
+        (R.remaining reader.new) fault) }
 {
     let mut filled = 0;
     let mut count = 0;
@@ -238,14 +259,72 @@ fn keep_rest(buffer: &mut [u8], filled: usize) -> usize
     keep_from(buffer, RECORD_BYTES * (filled / RECORD_BYTES), filled)
 }
 
-/// Reads a log to the input's end, and hands its records to a sink as they come. A record is handed
-/// on only once all of the bytes up to its end are found right, and it may follow the records
-/// before it.
+/// Reads a log to its first fault, or to the input's end, and hands its records to a sink as they
+/// come. A record is handed on only once all of the bytes up to its end are found right, and it may
+/// follow the records before it. So what the sink holds at a fault is of the records before it.
 ///
-/// It stops at the first fault, since nothing behind it can come before it. Where the reader stands
-/// then is not said. An interrupted read is made again. `ReadFault` comes where the reader fails
-/// otherwise, and where it was asked 134,217,728 times without coming to its end. `OutOfMemory`
-/// comes where room for the sink or for what is read is refused.
+/// It stops at the first fault, since nothing behind it can come before it. The bytes before the
+/// fault were read then, and some behind it. An interrupted read is made again. `BadHeader` comes
+/// where no log begins so. `ReadFault` comes where the reader fails otherwise, and where it was
+/// asked 134,217,728 times without coming to its end. `OutOfMemory` comes where room for the sink or
+/// for what is read is refused.
+pub fn scan_to_fault<R: Read, S: RecordSink + Drop>(
+    alloc: Global,
+    reader: &mut R,
+) -> Result<Reached<S>, LogReadFault>
+    ensures known { StaysKnown (R.remaining reader.old) (R.remaining reader.new) }
+    ensures found { IfOk result (λ it. IsReadTo S.holds it.scan.sink it.scan.history it.fault
+        (R.remaining reader.old)) }
+    ensures given { IfOk result (λ it. HasGivenTo (R.remaining reader.old) (R.remaining reader.new)
+        it.fault) }
+    // A fault behind a log is one of what was reached, and no `Err`.
+    ensures err { IfErr result (λ fault. ¬ IsBehindLog fault) }
+    ensures first { IfErr result (λ fault. IfSome (R.remaining reader.old)
+        (λ input. Refuses input fault)) }
+    // Where the reader failed, what it gave until then holds no fault.
+    ensures unread { IfErr result (GaveNoFault [] (R.remaining reader.old)
+        (R.remaining reader.new)) }
+{
+    let mut header = [0; HEADER_BYTES];
+    let turns = read_header(reader, &mut header)?;
+    let Some(found) = log_header(&header) else {
+        return Err(LogReadFault::BadHeader);
+    };
+    let mut buffer = zeros(alloc, BUFFER_BYTES)?;
+    let mut scan = Scan {
+        sink: S::start(alloc, found.pages)?,
+        history: History::start(alloc, found.pages)?,
+    };
+    let left = MAX_TURNS - turns;
+    match read_records(reader, found.format, &mut scan, left, &mut buffer) {
+        Ok(()) => Ok(Reached { scan, fault: None }),
+        Err(fault) => {
+            if !is_behind_log(fault) {
+                return Err(fault);
+            }
+            Ok(Reached {
+                scan,
+                fault: Some(fault),
+            })
+        }
+    }
+}
+
+/// Whether a fault lies behind a log.
+fn is_behind_log(fault: LogReadFault) -> bool
+    ensures { IsTrue result ↔ IsBehindLog fault }
+{
+    match fault {
+        LogReadFault::BadRecord(_)
+        | LogReadFault::BadChain(_)
+        | LogReadFault::Torn(_)
+        | LogReadFault::TooLong => true,
+        LogReadFault::OutOfMemory | LogReadFault::BadHeader | LogReadFault::ReadFault => false,
+    }
+}
+
+/// Reads a log to the input's end, and hands its records to a sink as they come, as `scan_to_fault`
+/// does. The first fault is an `Err`, whichever it is. Where the reader stands then is not said.
 pub fn scan_log<R: Read, S: RecordSink + Drop>(
     alloc: Global,
     reader: &mut R,
@@ -263,22 +342,9 @@ pub fn scan_log<R: Read, S: RecordSink + Drop>(
     ensures unread { IfErr result (GaveNoFault [] (R.remaining reader.old)
         (R.remaining reader.new)) }
 {
-    let mut header = [0; HEADER_BYTES];
-    let turns = read_header(reader, &mut header)?;
-    let Some(found) = log_header(&header) else {
-        return Err(LogReadFault::BadHeader);
-    };
-    let mut buffer = zeros(alloc, BUFFER_BYTES)?;
-    let mut scan = Scan {
-        sink: S::start(alloc, found.pages)?,
-        history: History::start(alloc, found.pages)?,
-    };
-    read_records(
-        reader,
-        found.format,
-        &mut scan,
-        MAX_TURNS - turns,
-        &mut buffer,
-    )?;
-    Ok(scan)
+    let Reached { scan, fault } = scan_to_fault(alloc, reader)?;
+    match fault {
+        None => Ok(scan),
+        Some(fault) => Err(fault),
+    }
 }

@@ -43,6 +43,23 @@ returns-in_err-take_record-clause-first g c =
     (c.in_err-take_record.ensures.first (given ++ so_far) (drop 64 (drop (64 * i) bytes) ++ rest)
     (c.loop-i.invariant given taken)))
 
+pub returns-in_err-take_record-clause-stopped : goal.returns-in_err-take_record-clause-stopped
+returns-in_err-take_record-clause-stopped g c =
+    let p = err_from_is_err_and c.from_residual.result c.from_residual.ensures.1 in
+    rw (p.1, p.2) (λ given taken behind.
+    let holds = g.S.RecordSink.holds in
+    let i = c.loop-i.i in
+    let read = given ++ take (64 * i) c.args.bytes.now in
+    let same = c.in_err-take_record.ensures.stopped behind in
+    record {
+      more = i;
+      taken = subst (λ made. HasTaken holds c.args.format c.take_record.new.sink made (c.args.count + i) read)
+          (sym same.1)
+          (subst (λ sink. HasTaken holds c.args.format sink c.loop-i.history (c.args.count + i) read) (sym same.0)
+          (c.loop-i.invariant given taken));
+      at = same.2;
+    })
+
 pub loop-i-preserved : goal.loop-i-preserved
 loop-i-preserved g c = λ given taken.
     let bytes = c.args.bytes.now in
