@@ -2,7 +2,6 @@ pub mod Adding
 pub mod Appending
 pub mod Beginnings
 pub mod Checking
-pub mod Counting
 pub mod Founds
 pub mod Interrupted
 pub mod Lives

@@ -1,42 +1,42 @@
--- What a restart leaves where no copy is at hand.
-use Rattle.std.proofs.Common.{ℕ, zero, suc, ◌≡◌, ◌<◌, List, [], ◌∷◌, get_or, length, map, refl, ap, sym, ◌∙◌, arith, lit≤}
-use Rattle.std.specs.List.{range_with_len}
+-- The pages after undo, and what a restart leaves where no copy is at hand.
+use Rattle.std.proofs.Common.{ℕ, zero, suc, ◌≡◌, ◌<◌, List, [], get_or, length, map, refl, ap, subst, sym, ◌∙◌, arith, lit≤}
 use Rattle.std.specs.Prelude.{slice_index}
 use Rattle.page_core.specs.declared.page.Page.{Page}
-use Rattle.page_core.specs.Page.{formatted}
-use Rattle.page_core.specs.Volume.{formatted_pages}
-use Rattle.log_records.specs.Coverage.{Covers, resume}
-use Rattle.log_records.specs.Image.{image, redo_all}
+use Rattle.log_records.specs.declared.record.Record.{Record}
+use Rattle.log_records.specs.Image.{AreNumbered, image_from, redo_all}
 use Rattle.log_records.specs.Log.{IsLog, Log, lsn_of, page_count}
-use Rattle.log_records.proofs.Public.{resume_covering}
-use Rattle.log_records.proofs.Public.{length-redo_all}
+use Rattle.log_records.proofs.Public.{length-redo_all, numbered-redo_all, redo_all-append}
 use Rattle.log_rules.specs.Linked.{IsLinked}
 use Rattle.log_rules.proofs.Public.{number_of_volume}
-use Rattle.loser_undo.specs.Recovery.{HasCommitted}
+use Rattle.loser_undo.specs.Recovery.{HasCommitted, appended}
 use Rattle.loser_undo.specs.Undo.{after_undo}
-use Rattle.loser_undo.proofs.Public.{undo_closes, undo_is_linked, undone_number}
+use Rattle.loser_undo.specs.UndoSink.{HasRedone}
+use Rattle.loser_undo.proofs.Public.{log_and_appended, nothing_redone, undo_closes, undo_is_linked}
+use Rattle.loser_undo.proofs.Public.{undone_count, undone_number}
 use Rattle.image_copies.specs.Copy.{CopyView}
 use Rattle.copy_vault.specs.Vault.{CopyState, complete, dropped, reading, state_of}
 use Rattle.copy_coverage.specs.Copied.{AreRestorable}
 use Rattle.engine_restart.specs.Restart.{IsRestarted, undone_log}
 
--- ---- the pages of a log, from their formatting on
+-- ---- the pages of a log, and what undo makes of them
 
-formatted_covers : (log : Log) (p : ℕ) → Covers log.records p (formatted p) 0
-formatted_covers log p = record {
-  past = record { count = 0; within = omega arith; made = refl };
-  reached = λ k d lt low. absurd (omega (arith, low));
-}
+pub nothing_undone : (log : Log) (pages : List Page) → pages ≡ redo_all log.records (page_count log)
+    → HasRedone log pages [] pages
+nothing_undone log pages is =
+    let rs = log.records in
+    let n = page_count log in
+    nothing_redone log pages (ap (length {A = Page}) is ∙ length-redo_all rs n)
+    (subst AreNumbered (sym is) (numbered-redo_all rs n))
 
-pub all_redone : (log : Log) (count : ℕ) (pages : List Page) → IsLog log → count ≡ page_count log
-    → pages ≡ map (λ page. resume page log.records 0) (formatted_pages count)
-    → pages ≡ redo_all log.records (page_count log)
-all_redone log count pages valid same is =
-    is ∙ over (range_with_len 0 count) ∙ ap (redo_all log.records) same
-  where
-    over : (ps : List ℕ) → map (λ page. resume page log.records 0) (map formatted ps) ≡ map (image log.records) ps
-    over [] = refl
-    over (p ∷ ps) = rw (resume_covering log p (formatted p) 0 valid (formatted_covers log p), over ps) refl
+pub all_undone : (log : Log) (pages new : List Page) → pages ≡ redo_all log.records (page_count log)
+    → new ≡ map (λ page. image_from page (appended log)) pages
+    → new ≡ redo_all (after_undo log.records) (page_count (undone_log log))
+all_undone log pages new is made =
+    made
+    ∙ ap (map (λ page. image_from page (appended log))) is
+    ∙ redo_all-append log.records (appended log) (page_count log)
+    ∙ ap (λ (rs : List Record). redo_all rs (page_count log)) (log_and_appended log)
+    ∙ ap (redo_all (after_undo log.records)) (undone_count log)
 
 -- each slot has its committed number
 pub all_committed : (log : Log) (pages : List Page) → IsLog log → IsLinked log.records

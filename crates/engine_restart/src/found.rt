@@ -7,9 +7,8 @@ ghost use Rattle.log_records.specs.Log.{log_bytes};
 ghost use Rattle.engine_restart.specs.Found.{FindsNone};
 
 use crate::found_fault::FoundFault;
-use log_front::{Cut, read_front};
+use log_front::{Front, read_front};
 use log_records::log_header;
-use log_store::LogImage;
 use page_core::Format;
 use std::alloc::Global;
 
@@ -18,18 +17,17 @@ use std::alloc::Global;
 ///
 /// `OldFormat` comes where the log is one of the first format, which is read and written no more:
 /// no engine goes on with it. The other faults are those of `read_front`.
-pub fn log_in(alloc: Global, bytes: &[u8]) -> Result<(LogImage, Option<Cut>), FoundFault>
-    ensures front { IfOk result (λ it.
-        IsFrontOf bytes.now (record { log = it.0; cut = it.1 })) }
-    ensures linked { IfOk result (λ it. IsLinked it.0.records) }
-    ensures spelled { IfOk result (λ it. take (end_of it.0) bytes.now ≡ log_bytes it.0) }
+pub fn log_in(alloc: Global, bytes: &[u8]) -> Result<Front, FoundFault>
+    ensures front { IfOk result (IsFrontOf bytes.now) }
+    ensures linked { IfOk result (λ it. IsLinked it.log.records) }
+    ensures spelled { IfOk result (λ it. take (end_of it.log) bytes.now ≡ log_bytes it.log) }
     ensures none { IfErr result (FindsNone bytes.now) }
 {
     let mut reader = bytes;
     let front = read_front(alloc, &mut reader)?;
     match log_header(bytes) {
         Some(header) => match header.format {
-            Format::Second => Ok(front.into_parts()),
+            Format::Second => Ok(front),
             Format::First => Err(FoundFault::OldFormat),
         },
         None => Err(FoundFault::BadHeader),

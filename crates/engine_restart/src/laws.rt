@@ -1,10 +1,12 @@
 //! Laws of a database that is lost and goes on, again and again, for readers of the contracts.
 
-ghost use Rattle.std.specs.Prelude.{ℕ, ◌≡◌, ◌∷◌, List};
+ghost use Rattle.std.specs.Prelude.{ℕ, ◌≡◌, ◌+◌, ◌<◌, ◌∷◌, List, length, slice_index_or, take};
 ghost use Rattle.std.specs.List.{All};
 ghost use Rattle.log_records.specs.Image.{redo_all};
 ghost use Rattle.log_records.specs.Log.{IsLog, Log, page_count};
+ghost use Rattle.log_records.specs.declared.record.Record.{Record};
 ghost use Rattle.log_rules.specs.Linked.{IsLinked};
+ghost use Rattle.log_rules.specs.Table.{MayNote, noted, table_of};
 ghost use Rattle.loser_undo.specs.Recovery.{HasCommitted};
 ghost use Rattle.image_copies.specs.Copy.{CopyView};
 ghost use Rattle.copy_vault.specs.Vault.{complete, state_of};
@@ -17,6 +19,17 @@ ghost use Rattle.engine_restart.specs.Restart.{undone_log};
 
 use copy_coverage::{a_complete_copy_restores, copies_may_be_restored};
 use loser_undo::undo_takes_back_what_is_pending;
+
+/// The analysis of a log (ARIES, section 6.1) goes record by record: each record may come next for
+/// the table of those before it, and leaves the table of those up to it. So the reader that told of
+/// each record whether it may follow knows what a restart has to take back.
+pub fn analysis_goes_record_by_record()
+    ensures may { (records : List Record) (i : ℕ) (d : Record) → IsLinked records
+        → i < length records → MayNote (table_of (take i records)) (slice_index_or records i d) }
+    ensures table { (records : List Record) (i : ℕ) (d : Record) → IsLinked records
+        → i < length records → table_of (take (i + 1) records)
+        ≡ noted (table_of (take i records)) (slice_index_or records i d) }
+{}
 
 /// Undo may be interrupted, and the undo that goes on from there again (ARIES, section 3): what is
 /// taken back stays so, and no record of undo is undone. So in the end the log is the same as where

@@ -12,9 +12,9 @@ ghost use Rattle.engine_restart.specs.declared.log_file_fault.FoundLogFault.TheV
 use crate::found::log_in;
 use crate::log_file_fault::FoundLogFault;
 use file_devices::FileLog;
-use log_front::Cut;
+use log_front::Front;
 use log_records::MAX_LOG_BYTES;
-use log_store::{DeviceFault, LogImage};
+use log_store::DeviceFault;
 use page_core::zeros;
 use std::alloc::Global;
 use std::fs::File;
@@ -26,22 +26,20 @@ pub const MAX_FILE_BYTES: usize = 2 * MAX_LOG_BYTES;
 /// A log that was found in a file, and the device that has it.
 #[derive(Drop)]
 pub struct FoundLog {
-    /// The longest front of the bytes that is a linked log.
-    pub log: LogImage,
-    /// Where and why the bytes behind it are left out.
-    pub cut: Option<Cut>,
+    /// The longest front of the bytes that is a linked log, and where and why it was cut.
+    pub front: Front,
     /// All bytes of the file, as it was read.
     pub bytes: Vec<u8>,
     pub device: FileLog,
-    ghost spelled: { take (end_of log) bytes.items ≡ log_bytes log },
+    ghost spelled: { take (end_of front.log) bytes.items ≡ log_bytes front.log },
 }
 
 impl FoundLog {
     /// The bytes behind the log.
     pub fn behind(&self) -> &[u8]
-        ensures { result.now ≡ drop (end_of self.now.log) self.now.bytes.items }
+        ensures { result.now ≡ drop (end_of self.now.front.log) self.now.bytes.items }
     {
-        let end = self.log.end().0 as usize;
+        let end = self.front.log().end().0 as usize;
         self.bytes.get(end..).unwrap_or(&[])
     }
 
@@ -51,18 +49,17 @@ impl FoundLog {
     /// An `Err` comes where a call of the file fails, and no call follows that one. Then the file may
     /// have anything. It takes no memory.
     pub fn keep_front(&mut self) -> Result<(), DeviceFault>
-        ensures log { self.new.log ≡ self.old.log }
-        ensures cut { self.new.cut ≡ self.old.cut }
+        ensures front { self.new.front ≡ self.old.front }
         ensures read { self.new.bytes ≡ self.old.bytes }
-        ensures lasting { OnOk result (LastsOnFile self.new.log self.new.device) }
+        ensures lasting { OnOk result (LastsOnFile self.new.front.log self.new.device) }
         ensures alone { OnOk result
-            ((known_of self.new.device).bytes ≡ log_bytes self.new.log) }
+            ((known_of self.new.device).bytes ≡ log_bytes self.new.front.log) }
         ensures calls { OnOk result
-            (KeepsFront (log_bytes self.old.log) self.old.device self.new.device) }
+            (KeepsFront (log_bytes self.old.front.log) self.old.device self.new.device) }
         ensures failed { OnErr result
-            (KeepFails self.old.device (log_bytes self.old.log) self.new.device) }
+            (KeepFails self.old.device (log_bytes self.old.front.log) self.new.device) }
     {
-        let end = self.log.end().0 as usize;
+        let end = self.front.log().end().0 as usize;
         self.device.keep(&self.bytes[..end])
     }
 }
@@ -77,10 +74,9 @@ impl FoundLog {
 /// call of it fails; and `Found` with the faults of `log_in`.
 pub fn found_log(alloc: Global, file: File, len: u64) -> Result<FoundLog, FoundLogFault>
     ensures whole { IfOk result (λ it. IsReadWhole len it.bytes.items it.device) }
-    ensures front { IfOk result (λ it.
-        IsFrontOf it.bytes.items (record { log = it.log; cut = it.cut })) }
-    ensures linked { IfOk result (λ it. IsLinked it.log.records) }
-    ensures lasting { IfOk result (λ it. LastsOnFile it.log it.device) }
+    ensures front { IfOk result (λ it. IsFrontOf it.bytes.items it.front) }
+    ensures linked { IfOk result (λ it. IsLinked it.front.log.records) }
+    ensures lasting { IfOk result (λ it. LastsOnFile it.front.log it.device) }
     ensures too_long { MAX_FILE_BYTES < len → result ≡ Err (TooLong len) }
     ensures none { IfErr result (HasNoLog len) }
 {
@@ -93,9 +89,8 @@ pub fn found_log(alloc: Global, file: File, len: u64) -> Result<FoundLog, FoundL
         Err(why) => return Err(FoundLogFault::File(why)),
     };
     match log_in(alloc, &bytes) {
-        Ok((log, cut)) => Ok(FoundLog {
-            log,
-            cut,
+        Ok(front) => Ok(FoundLog {
+            front,
             bytes,
             device,
         }),

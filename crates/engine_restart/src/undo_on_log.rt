@@ -1,92 +1,105 @@
-//! Undo on a log and its device.
+//! Undo on a log, its device and its pages.
 
 ghost use Rattle.std.specs.Prelude.{◌≡◌, ◌+◌, ◌<◌, ◌≤◌, length, IfErr, IfOk, OnOk};
+ghost use Rattle.log_front.specs.Front.{LeadsTo};
 ghost use Rattle.log_rules.specs.Linked.{IsLinked};
 ghost use Rattle.log_rules.specs.Transactions.{owed};
 ghost use Rattle.log_records.specs.declared.limits.TheConstants.{MAX_RECORDS};
-ghost use Rattle.log_records.specs.Log.{IsLog, log_bytes, lsn_of};
+ghost use Rattle.log_records.specs.Image.{redo_all};
+ghost use Rattle.log_records.specs.Log.{IsLog, log_bytes, lsn_of, page_count};
 ghost use Rattle.log_store.specs.Device.{KeepsFirst};
-ghost use Rattle.loser_undo.specs.Losers.{AreLosersOf};
 ghost use Rattle.engine_restart.specs.Restart.{ForcesMore, HasGrown, HasLasting, IsStopped};
 ghost use Rattle.engine_restart.specs.Restart.{undone_log};
 ghost use Rattle.engine_restart.specs.declared.fault.RestartFault.TheVariants.{LogFull};
 
 use crate::fault::RestartFault;
-use crate::losers::losers_of;
+use log_front::Front;
 use log_records::{MAX_RECORDS, Record};
 use log_store::{Log, LogDevice, LogImage};
 use loser_undo::{UndoSink, undo_into};
-use std::alloc::Global;
+use page_core::Page;
 use txn_table::Losers;
 
-/// Takes back all that is open at a log's end (ARIES, section 6.3): appends undo's records, and
-/// forces them to the device that has the log. Behind the log the device may have anything; it is
-/// cut off by the first record that is stored, so that then the device has the log alone. Where
-/// nothing is open, the device is not called.
+/// Takes back all that is open at a log's end (ARIES, section 6.3): appends undo's records, forces
+/// them to the device that has the log, and redoes them on the pages that the log makes. Behind the
+/// log the device may have anything; it is cut off by the first record that is stored, so that then
+/// the device has the log alone. Where nothing is open, the device is not called.
 ///
 /// `LogFull` comes where the records do not fit, before the first one; `OutOfMemory` where memory
 /// is refused, before the device is called; and `LogFault` where a call of the device fails. Each
 /// hands the device back. It still has the log, and perhaps some of undo's records behind it; so a
 /// restart can be tried again from what it has.
 pub fn take_back<D: LogDevice + Drop>(
-    alloc: Global,
-    log: LogImage,
+    front: Front,
     device: D,
-) -> Result<(LogImage, D), (RestartFault, D)>
-    requires linked { IsLinked log.records }
-    requires device { HasLasting D.bytes D.lasting log device }
+) -> Result<(LogImage, Vec<Page>, D), (RestartFault, D)>
+    requires { HasLasting D.bytes D.lasting front.log device }
 
-    ensures undone { IfOk result (λ it. it.0 ≡ undone_log log) }
-    ensures device { IfOk result (λ it. HasLasting D.bytes D.lasting it.0 it.1) }
-    ensures alone { IfOk result (λ it. length log.records < length it.0.records
-        → D.bytes it.1 ≡ log_bytes it.0) }
-    ensures called { IfOk result (λ it. ForcesMore D.called D.synced log it.0 device it.1) }
-    ensures room { OnOk result (length log.records + owed log.records ≤ MAX_RECORDS) }
+    ensures undone { IfOk result (λ it. it.0 ≡ undone_log front.log) }
+    ensures pages { IfOk result (λ it. it.1.items ≡ redo_all it.0.records (page_count it.0)) }
+    ensures device { IfOk result (λ it. HasLasting D.bytes D.lasting it.0 it.2) }
+    ensures alone { IfOk result (λ it. length front.log.records < length it.0.records
+        → D.bytes it.2 ≡ log_bytes it.0) }
+    ensures called { IfOk result (λ it.
+        ForcesMore D.called D.synced front.log it.0 device it.2) }
+    ensures room { OnOk result
+        (length front.log.records + owed front.log.records ≤ MAX_RECORDS) }
     ensures full { IfErr result (λ e. e.0 ≡ LogFull
-        → MAX_RECORDS < length log.records + owed log.records) }
+        → MAX_RECORDS < length front.log.records + owed front.log.records) }
     ensures fault { IfErr result (λ e. IsStopped D.failures device e.0 e.1) }
     ensures stands { IfErr result (λ e.
-        KeepsFirst (lsn_of (length log.records)) (D.bytes device) (D.bytes e.1)) }
-    ensures valid { IsLog log }
+        KeepsFirst (lsn_of (length front.log.records)) (D.bytes device) (D.bytes e.1)) }
+    ensures valid { IsLog front.log }
+    ensures linked { IsLinked front.log.records }
 {
-    let losers = match losers_of(alloc, log.records()) {
-        Ok(losers) => losers,
-        Err(fault) => return Err((fault.into(), device)),
-    };
+    let (log, pages, losers) = front.into_replayed();
     if log.records().len() as u64 + losers.owed() > MAX_RECORDS as u64 {
         return Err((RestartFault::LogFull, device));
     }
-    let mut written = match with_undo(log, losers, device) {
-        Ok(written) => written,
+    let (mut written, pages) = match with_undo(log, pages, losers, device) {
+        Ok(undone) => undone,
         Err(device) => return Err((RestartFault::OutOfMemory, device)),
     };
     match written.force() {
-        Ok(()) => Ok(written.into_parts()),
+        Ok(()) => {
+            let (log, device) = written.into_parts();
+            Ok((log, pages, device))
+        }
         Err(_) => Err((RestartFault::LogFault, written.into_parts().1)),
     }
 }
 
-/// The log with the records of undo in memory. An `Err` comes where memory for these is refused.
-fn with_undo<D: LogDevice + Drop>(log: LogImage, losers: Losers, device: D) -> Result<Log<D>, D>
-    requires losers { AreLosersOf log.records losers }
+/// The log with the records of undo in memory, and its pages with what these change. An `Err` comes
+/// where memory for these is refused.
+fn with_undo<D: LogDevice + Drop>(
+    log: LogImage,
+    pages: Vec<Page>,
+    losers: Losers,
+    device: D,
+) -> Result<(Log<D>, Vec<Page>), D>
+    requires leads { LeadsTo log pages.items losers }
     requires device { HasLasting D.bytes D.lasting log device }
     requires room { length log.records + owed log.records ≤ MAX_RECORDS }
-    ensures undone { IfOk result (λ it. it.log ≡ undone_log log) }
-    ensures forced_end { IfOk result (λ it. it.forced_end ≡ lsn_of (length log.records)) }
-    ensures device { IfOk result (λ it. it.device ≡ device) }
+    ensures undone { IfOk result (λ it. it.0.log ≡ undone_log log) }
+    ensures pages { IfOk result (λ it.
+        it.1.items ≡ redo_all (undone_log log).records (page_count (undone_log log))) }
+    ensures forced_end { IfOk result (λ it. it.0.forced_end ≡ lsn_of (length log.records)) }
+    ensures device { IfOk result (λ it. it.0.device ≡ device) }
     ensures refused { IfErr result (λ it. it ≡ device) }
     ensures valid { IsLog log }
 {
     let count = log.records().len();
-    let mut sink = GrowingLog {
+    let growing = GrowingLog {
         written: Log::resume(log, device),
         is_refused: false,
     };
+    let mut sink = (growing, pages);
     undo_into(losers, count, &mut sink);
-    if sink.is_refused {
-        return Err(sink.written.into_parts().1);
+    let (growing, pages) = sink;
+    if growing.is_refused {
+        return Err(growing.written.into_parts().1);
     }
-    Ok(sink.written)
+    Ok((growing.written, pages))
 }
 
 /// A log on its device, and whether memory for a record was refused. From then on it takes none.

@@ -65,20 +65,20 @@ fn show_log<W: Write>(
         return Err(ViewFault::BadHeader);
     };
     let mut input = bytes;
-    let front = read_front(alloc, &mut input)?;
+    let (log, cut) = read_front(alloc, &mut input)?.into_parts();
     let head = Head::Log {
         format: header.format,
-        pages: front.log().page_count(),
+        pages: log.page_count(),
         records: (bytes.len().saturating_sub(HEADER_BYTES) / RECORD_BYTES) as u64,
     };
     put_head(&mut lines.text, form, head)?;
-    for record in front.log().records() {
+    for record in log.records() {
         if wanted.takes(record) {
             put_record(&mut lines.text, form, record)?;
             lines.pass()?;
         }
     }
-    match front.cut() {
+    match cut {
         Some(cut) => Err(ViewFault::Log(cut.fault())),
         None => Ok(()),
     }

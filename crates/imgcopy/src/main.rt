@@ -92,7 +92,7 @@ fn main(rt: HostRuntime) -> ExitCode {
                 salvage,
                 strict,
             };
-            open(&rt, &rt, &call)
+            open(&rt, &call)
         }
         Ok(
             Command::Restore {
@@ -319,11 +319,11 @@ fn finish(
 }
 
 /// Opens a database, and answers the lines of standard input.
-fn open(rt: &HostRuntime, threads: &(impl Threads + Sync), call: &OpenCall<'_>) -> ExitCode
+fn open(rt: &HostRuntime, call: &OpenCall<'_>) -> ExitCode
     requires pages { IfSome call.now.pages IsPageCount }
     requires frames { IsFrameCount call.now.frames }
 {
-    match open_folder(rt, threads, call) {
+    match open_folder(rt, call) {
         OpenEnd::Well => ExitCode::SUCCESS,
         OpenEnd::Refused => ExitCode::from(REFUSED_STATUS),
         OpenEnd::Failed => ExitCode::from(FAULT_STATUS),

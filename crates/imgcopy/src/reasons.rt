@@ -10,7 +10,7 @@ use log_store::LogReadFault;
 use media_restore::RestoreFault;
 use page_core::field::u64_at;
 use page_core::{Lsn, PAGE_BYTES, PageNo};
-use page_redo::Fault;
+use page_redo::StreamFault;
 use std::io::{Read, Seek, SeekFrom};
 use std::{fmt, fs};
 use system_files::{Escaped, Notes};

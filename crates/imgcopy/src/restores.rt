@@ -52,46 +52,6 @@ pub fn restore(
     }
 }
 
-/// Where an output goes, a file or standard output, and why calls of it failed.
-#[derive(Clone, Copy)]
-struct Target<'a> {
-    path: Option<&'a str>,
-    notes: &'a Notes,
-}
-
-impl<'a> Target<'a> {
-    fn new(path: Option<&'a str>, notes: &'a Notes) -> Target<'a> {
-        Target { path, notes }
-    }
-
-    /// Tells why it was not written.
-    fn tell(&self, rt: &HostRuntime) {
-        match self.path {
-            Some(path) => tell_output(rt, path, self.notes),
-            None => tell_unwritten(rt, self.notes),
-        }
-    }
-}
-
-/// Tells why the files restore nothing, or which output was not written, and answers the program's
-/// status. `inputs` says why calls of the files failed.
-fn ended(
-    rt: &HostRuntime,
-    names: &Named<'_>,
-    inputs: &Notes,
-    volume: Target<'_>,
-    log: Target<'_>,
-    fault: &WithLogFault,
-) -> ExitCode {
-    let status = status_of_files(rt, &Err(fault.told()));
-    match fault {
-        WithLogFault::OfLog(_) => log.tell(rt),
-        WithLogFault::OfVolume(RestoreFault::WriteFault(_)) => volume.tell(rt),
-        WithLogFault::OfVolume(fault) => tell_input(rt, names, fault, inputs),
-    }
-    status
-}
-
 /// Restores a volume to standard output.
 fn restore_out(
     rt: &HostRuntime,
@@ -116,20 +76,13 @@ fn restore_out(
         names.archives,
         &mut noted(patient(rt, io::writer(rt)), &output),
     );
-    match done {
-        Ok(()) => ExitCode::SUCCESS,
-        Err(fault) => {
-            let volume = Target::new(None, &output);
-            ended(
-                rt,
-                names,
-                &notes,
-                volume,
-                volume,
-                &WithLogFault::OfVolume(fault),
-            )
-        }
+    let status = status_of_files(rt, &done);
+    match &done {
+        Err(RestoreFault::WriteFault(_)) => tell_unwritten(rt, &output),
+        Err(fault) => tell_input(rt, names, fault, &notes),
+        Ok(()) => {}
     }
+    status
 }
 
 /// The same, into a file.
@@ -153,15 +106,12 @@ fn restore_into(
     match put_restored_volume(&mut folder, rt.alloc(), name, &files, threads, from) {
         Ok(()) => ExitCode::SUCCESS,
         Err(PutStoredFault::Unput(PutFault::Unwritten(fault))) => {
-            let volume = Target::new(Some(path), &written);
-            ended(
-                rt,
-                names,
-                &notes,
-                volume,
-                volume,
-                &WithLogFault::OfVolume(fault),
-            )
+            let status = status_of_files(rt, &Err(fault));
+            match &fault {
+                RestoreFault::WriteFault(_) => tell_output(rt, path, &written),
+                fault => tell_input(rt, names, fault, &notes),
+            }
+            status
         }
         Err(fault) => folder.tell_unput(&fault),
     }
@@ -202,9 +152,15 @@ fn restore_log_into(
     match done {
         Ok(()) => ExitCode::SUCCESS,
         Err(PutStoredFault::Unput(PutFault::Unwritten(fault))) => {
-            let volume = Target::new(None, &output);
-            let log = Target::new(Some(path), &written);
-            ended(rt, names, &notes, volume, log, &fault)
+            let status = status_of_files(rt, &Err(fault.told()));
+            match &fault {
+                WithLogFault::OfLog(_) => tell_output(rt, path, &written),
+                WithLogFault::OfVolume(RestoreFault::WriteFault(_)) => {
+                    tell_unwritten(rt, &output);
+                }
+                WithLogFault::OfVolume(fault) => tell_input(rt, names, fault, &notes),
+            }
+            status
         }
         Err(fault) => folder.tell_unput(&fault),
     }
@@ -249,9 +205,15 @@ fn restore_both_into(
     match done {
         Ok(()) => ExitCode::SUCCESS,
         Err(PutBothFault::Unwritten(fault)) => {
-            let volume = Target::new(Some(path), &written);
-            let log = Target::new(Some(log), &log_written);
-            ended(rt, names, &notes, volume, log, &fault)
+            let status = status_of_files(rt, &Err(fault.told()));
+            match &fault {
+                WithLogFault::OfLog(_) => tell_output(rt, log, &log_written),
+                WithLogFault::OfVolume(RestoreFault::WriteFault(_)) => {
+                    tell_output(rt, path, &written);
+                }
+                WithLogFault::OfVolume(fault) => tell_input(rt, names, fault, &notes),
+            }
+            status
         }
         Err(fault) => {
             tell_unput(&log_folder, &folder, &fault);

@@ -56,6 +56,7 @@ pub use engine_restart::FoundLogFault;
 pub use engine_restart::MAX_FILE_BYTES;
 pub use engine_restart::RestartFault;
 pub use engine_restart::Restarted;
+pub use engine_restart::analysis_goes_record_by_record;
 pub use engine_restart::found_log;
 pub use engine_restart::lives_follow_one_another;
 pub use engine_restart::log_in;

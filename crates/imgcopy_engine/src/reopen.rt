@@ -3,7 +3,6 @@
 ghost use Rattle.std.specs.Prelude.{◌≡◌, IfOk};
 ghost use Rattle.buffer_pool.specs.Pool.{IsFrameCount};
 ghost use Rattle.log_front.specs.Front.{IsFrontOf};
-ghost use Rattle.log_rules.specs.Linked.{IsLinked};
 ghost use Rattle.engine_restart.specs.LogFile.{GoesOnFromFile, LastsOnFile, WasReadWhole};
 ghost use Rattle.engine_rules.specs.EngineState.{log_of};
 ghost use Rattle.imgcopy_engine.specs.Taken.{TakesUp};
@@ -20,7 +19,6 @@ use page_core::FaultName;
 use std::alloc::{AllocError, Global};
 use std::fmt;
 use std::fs::File;
-use std::thread::Threads;
 use txn_table::TablesFault;
 
 /// An engine whose log and volume are files.
@@ -98,7 +96,6 @@ impl From<FoundLogFault> for ReopenFault {
 /// stands behind the log in it is cut off; what was open is taken back on the log, and each slot has
 /// its committed number. The file of the volume is emptied, and gets the pages that the log makes.
 pub fn reopen_files(
-    rt: &(impl Threads + Sync),
     alloc: Global,
     frames: u32,
     log: (File, u64),
@@ -112,15 +109,11 @@ pub fn reopen_files(
         it.refused.items it.engine.state.copies) }
 {
     let (file, len) = log;
-    let FoundLog {
-        log,
-        cut,
-        device,
-        ..
-    } = log_alone(alloc, file, len)?;
+    let FoundLog { front, device, .. } = log_alone(alloc, file, len)?;
+    let cut = front.cut();
     // A log that is read is one.
-    let _count = log.pages();
-    let (mut restarted, device) = match restart(rt, alloc, log, device) {
+    let _count = front.log().pages();
+    let (mut restarted, device) = match restart(alloc, front, device) {
         Ok(it) => it,
         Err((fault, _)) => return Err(ReopenFault::Restart(fault)),
     };
@@ -144,10 +137,8 @@ pub fn reopen_files(
 /// behind new ones.
 fn log_alone(alloc: Global, file: File, len: u64) -> Result<FoundLog, ReopenFault>
     ensures read { IfOk result (λ it. WasReadWhole len it.bytes.items it.device) }
-    ensures front { IfOk result (λ it.
-        IsFrontOf it.bytes.items (record { log = it.log; cut = it.cut })) }
-    ensures linked { IfOk result (λ it. IsLinked it.log.records) }
-    ensures lasting { IfOk result (λ it. LastsOnFile it.log it.device) }
+    ensures front { IfOk result (λ it. IsFrontOf it.bytes.items it.front) }
+    ensures lasting { IfOk result (λ it. LastsOnFile it.front.log it.device) }
 {
     let mut found = found_log(alloc, file, len)?;
     match found.keep_front() {

@@ -4,13 +4,16 @@ use Rattle.std.specs.Prelude.{Option, Some, None, IfSome}
 use Rattle.std.specs.Io.KnownBytes.{Consumes, IsAtEnd}
 use Rattle.page_core.specs.FaultName.{fault_line}
 use Rattle.page_core.specs.declared.fault_name.FaultName.TheVariants as name
+use Rattle.page_core.specs.declared.page.Page.{Page}
 use Rattle.log_records.specs.declared.limits.TheConstants.{MAX_LOG_BYTES, MAX_RECORDS, RECORD_BYTES}
 use Rattle.log_records.specs.declared.record.Record.{Record}
 use Rattle.log_records.specs.Record.{record_bytes}
+use Rattle.log_records.specs.Image.{redo_all}
 use Rattle.log_records.specs.Log.{IsLog, IsOfFormat, Log, SpellsLog, StandsAt, format_in, lsn_of}
 use Rattle.log_records.specs.Log.{page_count}
 use Rattle.log_rules.specs.History.{IsMadeOf, Made}
 use Rattle.log_rules.specs.Linked.{IsLinked}
+use Rattle.log_rules.specs.Table.{TxnEntry, table_of}
 use Rattle.log_store.specs.Fault.{MayComeBehind}
 use Rattle.log_store.specs.declared.fault.LogReadFault.{LogReadFault}
 use Rattle.log_store.specs.declared.fault.LogReadFault.TheVariants as whole
@@ -71,6 +74,12 @@ pub record FoundFront : Type 0 where
 pub record IsFrontOf (bytes : List ℕ) (found : FoundFront) : Type 0 where
   pub longest : IsLongestFront bytes found.log
   pub cut : IsCut bytes found.log found.cut
+
+-- a linked log leads to these pages, and to these open transactions with their pending changes
+pub record LeadsTo (log : Log) (pages : List Page) (losers : List TxnEntry) : Type 0 where
+  pub linked : IsLinked log.records
+  pub redone : pages ≡ redo_all log.records (page_count log)
+  pub still_open : losers ≡ (table_of log.records).entries
 
 -- the bytes have no front at all
 abbrev pub HasNoFront : List ℕ → Type 0

@@ -9,31 +9,36 @@ use crate::cut::Cut;
 use crate::fault::FrontFault;
 use crate::scan::{FrontScan, scan_front};
 use log_store::LogImage;
+use page_core::Page;
 use std::alloc::Global;
 use std::io::Read;
 use std::marker::Model;
+use txn_table::Losers;
 
 /// The longest front of an input that is a linked log, and where and why the input was cut.
 #[derive(Drop)]
 pub struct Front {
     log: LogImage,
     cut: Option<Cut>,
+    /// What its records lead to: reading has made this, since it decides which record may follow.
+    pages: Vec<Page>,
+    losers: Losers,
 }
 
 impl Model for Front {
-    ghost use Rattle.log_rules.specs.Linked.{IsLinked};
-    ghost use Rattle.log_front.specs.Front.{FoundFront};
+    ghost use Rattle.log_front.specs.Front.{FoundFront, LeadsTo};
 
     ghost Value = { FoundFront };
 
     ghost view = { λ front. record { log = front.log; cut = front.cut } };
 
-    ghost invariant = { λ front. IsLinked front.log.records };
+    ghost invariant = { λ front. LeadsTo front.log front.pages.items front.losers };
 }
 
 impl Front {
     ghost use Rattle.std.specs.Prelude.{◌≡◌};
     ghost use Rattle.log_rules.specs.Linked.{IsLinked};
+    ghost use Rattle.log_front.specs.Front.{LeadsTo};
 
     /// The front: a linked log.
     pub fn log(&self) -> &LogImage
@@ -57,6 +62,15 @@ impl Front {
     {
         (self.log, self.cut)
     }
+
+    /// The front, the pages that it makes, and the transactions that are open at its end. So who
+    /// goes on from it need not go over its records again.
+    pub fn into_replayed(self) -> (LogImage, Vec<Page>, Losers)
+        ensures log { result.0 ≡ self.log }
+        ensures leads { LeadsTo self.log result.1.items result.2 }
+    {
+        (self.log, self.pages, self.losers)
+    }
 }
 
 /// Reads the longest front of an input that is a linked log.
@@ -73,8 +87,11 @@ pub fn read_front<R: Read>(alloc: Global, reader: &mut R) -> Result<Front, Front
     ensures none { result ≡ Err BadHeader → IfSome (R.remaining reader.old) HasNoFront }
 {
     let FrontScan { scan, cut } = scan_front::<R, LogImage>(alloc, reader)?;
+    let (pages, open) = scan.history.into_parts();
     Ok(Front {
         log: scan.sink,
         cut,
+        pages,
+        losers: open.into_losers(),
     })
 }

@@ -70,6 +70,14 @@ impl History {
         self.txns
     }
 
+    /// The pages, and the open transactions, after all records so far. The rest is let go.
+    pub fn into_parts(self) -> (Vec<Page>, OpenTransactions)
+        ensures pages { result.0.items ≡ self.pages }
+        ensures open { result.1.table ≡ self.table }
+    {
+        (self.pages, self.txns)
+    }
+
     /// Prefetches what a change of a slot will look at. For a slot that is not there it does
     /// nothing. What it answers says nothing, but a compiler must keep the look for it.
     pub fn look(&self, page: PageNo, slot: SlotNo) -> u64 {

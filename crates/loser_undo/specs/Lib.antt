@@ -2,7 +2,6 @@ pub mod Fault
 pub mod Kept
 pub mod LastChanges
 pub mod Losers
-pub mod PageUndo
 pub mod Recovery
 pub mod Tail
 pub mod Undo

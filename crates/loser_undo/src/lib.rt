@@ -4,7 +4,6 @@
 mod analysis;
 mod fault;
 mod log_changes;
-mod page_undo;
 mod read;
 mod redone;
 mod tail;
@@ -17,8 +16,7 @@ mod undone;
 pub use analysis::losers;
 pub use fault::UndoFault;
 pub use log_changes::LogChanges;
-pub use page_undo::undo_open;
-pub use read::read_changes;
+pub use read::{ReadLog, read_changes, read_changes_and};
 pub use redone::Redone;
 pub use tail::{OpenTxn, complete_checkpoints_begin_tails, open_at_end, open_by_tail};
 pub use undo_laws::{

@@ -10,16 +10,78 @@ ghost use Rattle.loser_undo.specs.Losers.{losers_of};
 ghost use Rattle.loser_undo.specs.Kept.{kept_of};
 
 use crate::log_changes::LogChanges;
-use log_store::{LogReadFault, scan_log};
-use std::alloc::Global;
+use log_records::Record;
+use log_store::{LogReadFault, RecordSink, scan_log};
+use std::alloc::{AllocError, Global};
 use std::io::Read;
 use txn_table::Losers;
 
-/// Reads a whole log, to the input's end, and answers what a restore needs of it, and the
-/// transactions that are open at its end with their pending changes: reading has made these, since
-/// they decide which record may follow.
+/// What was read of a log.
+#[derive(Drop)]
+pub struct ReadLog<K> {
+    /// What a restore needs of it.
+    pub changes: LogChanges,
+    /// What else is kept of it.
+    pub kept: K,
+    /// The transactions that are open at its end, with their pending changes.
+    pub losers: Losers,
+}
+
+/// Keeps what a restore needs of a log, and what another sink keeps.
+#[derive(Drop)]
+struct ChangesAnd<K> {
+    changes: LogChanges,
+    kept: K,
+}
+
+impl<K: RecordSink> RecordSink for ChangesAnd<K> {
+    ghost holds = { λ sink log. (sink.changes ≡ kept_of log) × K.holds sink.kept log };
+
+    fn start(alloc: Global, pages: u32) -> Result<ChangesAnd<K>, AllocError> {
+        Ok(ChangesAnd {
+            changes: LogChanges::start(alloc, pages)?,
+            kept: K::start(alloc, pages)?,
+        })
+    }
+
+    fn take(&mut self, next: &[Record]) -> Result<(), AllocError> {
+        self.changes.take(next)?;
+        self.kept.take(next)
+    }
+}
+
+/// Reads a whole log, to the input's end, and answers what a restore needs of it, what a sink keeps
+/// of it besides, and the transactions that are open at its end with their pending changes: reading
+/// has made these, since they decide which record may follow.
 ///
 /// The faults, and where the reader stands after one, are those of `scan_log`.
+pub fn read_changes_and<R: Read, K: RecordSink + Drop>(
+    alloc: Global,
+    reader: &mut R,
+) -> Result<ReadLog<K>, LogReadFault>
+    ensures known { StaysKnown (R.remaining reader.old) (R.remaining reader.new) }
+    ensures found { IfOk result (λ it. (log : Log) × ((it.changes ≡ kept_of log)
+        × (K.holds it.kept log × ((it.losers ≡ losers_of log.records) × (IsLinked log.records
+        × (IsLog log × IfSome (R.remaining reader.old) (SpellsLog log))))))) }
+    ensures end { OnOk result (IsAtEnd (R.remaining reader.new)) }
+    // The fault is the first one.
+    ensures first { IfErr result (λ fault. IfSome (R.remaining reader.old)
+        (λ input. Refuses input fault)) }
+    // Where the reader failed, what it gave until then holds none.
+    ensures unread { IfErr result (GaveNoFault [] (R.remaining reader.old)
+        (R.remaining reader.new)) }
+{
+    let scan = scan_log::<R, ChangesAnd<K>>(alloc, reader)?;
+    let ChangesAnd { changes, kept } = scan.sink;
+    let losers = scan.history.into_open().into_losers();
+    Ok(ReadLog {
+        changes,
+        kept,
+        losers,
+    })
+}
+
+/// Reads a whole log as `read_changes_and` does, and keeps nothing besides.
 pub fn read_changes<R: Read>(
     alloc: Global,
     reader: &mut R,
@@ -36,6 +98,6 @@ pub fn read_changes<R: Read>(
     ensures unread { IfErr result (GaveNoFault [] (R.remaining reader.old)
         (R.remaining reader.new)) }
 {
-    let scan = scan_log::<R, LogChanges>(alloc, reader)?;
-    Ok((scan.sink, scan.history.into_open().into_losers()))
+    let read = read_changes_and::<R, ()>(alloc, reader)?;
+    Ok((read.changes, read.losers))
 }

@@ -24,7 +24,7 @@ use Rattle.log_store.specs.declared.master.Master.{Master}
 use Rattle.image_copies.specs.Chain.{IsChain, content, contents, last_redo}
 use Rattle.copy_vault.specs.ChainOf.{IsChainOf}
 use Rattle.image_copies.specs.Copy.{CopyView}
-use Rattle.copy_vault.specs.Vault.{complete, state_of}
+use Rattle.copy_vault.specs.Vault.{state_of}
 use Rattle.copy_coverage.specs.Kept.{IsKeptOf}
 use Rattle.copy_coverage.specs.Retired.{HasRoomForUndo, NamesCheckpoint, IsRetired, RetiredView}
 use Rattle.copy_coverage.proofs.Public.{restored_of_members}

@@ -1,22 +1,20 @@
 -- The pages that are restored of a chain and a log.
-use Rattle.std.proofs.Common.{◌≡◌, ◌∙◌, ℕ, ◌<◌, ◌≤◌, List, length, map}
-use Rattle.std.proofs.Common.{refl, sym, ap, subst, arith, Global, Vec}
-use Rattle.std.specs.Prelude.{Option, Result, Ok, Err, IfOk, IfErr, OnOk}
+use Rattle.std.proofs.Common.{◌≡◌, ◌∙◌, ℕ, ◌<◌, List, [], length, map}
+use Rattle.std.proofs.Common.{refl, sym, ap, subst, arith}
+use Rattle.std.specs.Prelude.{Option, IfSome}
 use Rattle.std.proofs.KnownBytes.{Keeps-refl}
 use Rattle.std.proofs.lemmas.List.{get_or-map, length-map, same_lists}
 use Rattle.std.proofs.lemmas.List.FromFn.{get_or-map-range_with_len, length-map-range_with_len}
 use Rattle.page_core.specs.declared.page.Page.{Page}
 use Rattle.page_core.specs.Page.{volume_bytes}
 use Rattle.page_core.specs.Volume.{AreNumbered, SpellsVolume}
-use Rattle.log_records.specs.declared.limits.TheConstants.{MAX_RECORDS}
 use Rattle.log_records.specs.Coverage.{resume}
 use Rattle.log_records.specs.Image.{image, image_from, redo_all}
-use Rattle.log_records.specs.Log.{IsLog, Log, counts_of, page_count}
+use Rattle.log_records.specs.Log.{IsLog, Log, SpellsLog, counts_of, lsn_of, page_count}
 use Rattle.log_records.proofs.Public.{resume_covering}
 use Rattle.log_records.proofs.Public.{numbered-images}
 use Rattle.log_rules.specs.Linked.{IsLinked}
 use Rattle.log_rules.specs.Table.{TxnEntry}
-use Rattle.loser_undo.specs.Losers.{losers_of}
 use Rattle.log_store.specs.declared.fault.LogReadFault.{LogReadFault}
 use Rattle.log_store.specs.declared.fault.LogReadFault.TheVariants as log
 use Rattle.log_store.specs.declared.master.Master.{Master}
@@ -29,9 +27,10 @@ use Rattle.image_copies.proofs.Public.{contents_numbered}
 use Rattle.loser_undo.specs.Recovery.{HasCommitted, Recovery, appended}
 use Rattle.loser_undo.proofs.Public.{undone_committed, undone_count, undone_whole}
 use Rattle.log_records.proofs.Public.{last_count-counts_of}
-use Rattle.page_core.specs.PageCounts.{last_count}
-use Rattle.loser_undo.proofs.Public.{numbered_resumed}
+use Rattle.page_core.specs.PageCounts.{PageCounts, last_count}
+use Rattle.loser_undo.proofs.Public.{nothing_redone, numbered_resumed}
 use Rattle.loser_undo.specs.Kept.{Kept, kept_of}
+use Rattle.loser_undo.specs.UndoSink.{HasRedone}
 use Rattle.media_restore.specs.declared.files_fault.RestoreFault.{RestoreFault}
 use Rattle.media_restore.specs.declared.files_fault.RestoreFault.TheVariants.{OutOfMemory, LogFull, WriteFault}
 use Rattle.media_restore.specs.declared.files_fault.RestoreFault.TheVariants.{BadHeader, BadRecord, Torn, ReadFault}
@@ -39,10 +38,10 @@ use Rattle.media_restore.specs.declared.files_fault.RestoreFault.TheVariants.{To
 use Rattle.media_restore.specs.declared.files_fault.RestoreFault.TheVariants.{ChainBroken}
 use Rattle.media_restore.specs.declared.files_fault.RestoreFault.TheVariants.{CountDiffers}
 use Rattle.media_restore.specs.declared.files_fault.RestoreFault.TheVariants.{RedoBeyondLog, PageBeyondLog}
-use Rattle.media_restore.specs.Files.{AreCovering, AreSound, Files, HasParts, IsOfLog, IsOfMaster, IsRead, IsRestoredFrom}
-use Rattle.media_restore.specs.Files.{Leaves, Refused, most_records, redone_of}
+use Rattle.media_restore.specs.Files.{AreCovering, AreSound, Files, HasParts, IsOfLog, IsOfMaster, IsRedoneFrom, IsRestoredFrom}
+use Rattle.media_restore.specs.Files.{Leaves, Refused, redone_of}
 use Rattle.media_restore.specs.Files.{of_the_log, of_the_master, of_the_archives, of_undo, of_memory}
-use Rattle.media_restore.specs.FilesArchives.{AreOfArchives, end_of}
+use Rattle.media_restore.specs.FilesArchives.{end_of}
 use Rattle.media_restore.specs.FilesFault as from
 use Rattle.loser_undo.specs.Undo.{after_undo}
 
@@ -64,27 +63,60 @@ covering_whole log copies valid covers =
     ∙ resume_covering log k (content copies k) (last_redo copies) valid (covers k below)
     ∙ sym (get_or-map-range_with_len (image rs) 0 n k k d below (omega arith)))
 
--- what was read of a log, and the pages of a chain for its volume
-pub is_read : (log : Log) (kept : Kept) (losers : List TxnEntry) (inputs : List (Option (List ℕ))) (pages : List Page) (redo : ℕ)
-    → IsLog log → IsLinked log.records → kept ≡ kept_of log → losers ≡ losers_of log.records
-    → IsChainRead (counts_of log) (end_of log) inputs pages redo → IsRead log kept losers pages
-is_read log kept losers inputs pages redo valid linked same_kept same_losers of_chain =
-    let copies = of_chain.copies in
-    record {
-      valid = valid;
-      linked = linked;
-      kept = same_kept;
-      made = same_losers;
-      count = ap length of_chain.made ∙ length-map-range_with_len (content copies) 0 (last_count (counts_of log))
-          ∙ last_count-counts_of log;
-      numbered = subst AreNumbered (sym of_chain.made)
-          (contents_numbered copies (last_count (counts_of log)) of_chain.chain);
-    }
+-- ---- what is read
 
--- the copies that the archives spell
-pub of_read : (log : Log) (inputs : List (Option (List ℕ))) (pages : List Page) (redo : ℕ)
-    → (read : IsChainRead (counts_of log) (end_of log) inputs pages redo) → AreOfArchives inputs log read.copies
-of_read log inputs pages redo read = record { spelled = read.spelled; fit = read.fit; within = read.within }
+pub is_of_log : (input : Option (List ℕ)) (log : Log)
+    → IsLinked log.records × (IsLog log × IfSome input (SpellsLog log)) → IsOfLog input log
+is_of_log input log found = record { valid = found.1.0; linked = found.0; spelled = found.1.1 }
+
+-- with the page counts and the end that are kept of a log
+pub of_log : (log : Log) (kept : Kept) (counts : PageCounts) (end : ℕ) (P : PageCounts → ℕ → Type 0)
+    → kept ≡ kept_of log → counts ≡ counts_of log → end ≡ lsn_of kept.count → P counts end
+    → P (counts_of log) (end_of log)
+of_log log kept counts end P same same_counts same_end is =
+    subst (λ (all : PageCounts). P all (end_of log)) same_counts
+    (subst (P counts) (same_end ∙ ap (λ (k : Kept). lsn_of k.count) same) is)
+
+-- all parts of the files, where their readers answer a log, a master record of it and the pages of a chain
+pub all_parts : (files : Files) (log : Log) (master : Master) (pages : List Page) (redo : ℕ) → IsOfLog files.log log
+    → IsOfMaster files.master log.records master
+    → (read : IsChainRead (counts_of log) (end_of log) files.archives pages redo)
+    → HasParts files log master read.copies
+all_parts files log master pages redo of_log of_master read = record {
+  of_log = of_log;
+  of_master = of_master;
+  of_archives = record { spelled = read.spelled; fit = read.fit; within = read.within };
+  chain = read.chain;
+}
+
+pub chain_numbered : (log : Log) (inputs : List (Option (List ℕ))) (pages : List Page) (redo : ℕ)
+    → IsChainRead (counts_of log) (end_of log) inputs pages redo → AreNumbered pages
+chain_numbered log inputs pages redo read =
+    subst AreNumbered (sym read.made) (contents_numbered read.copies (last_count (counts_of log)) read.chain)
+
+-- their volume, with redo of the log
+pub redone_pages : (log : Log) (inputs : List (Option (List ℕ))) (pages : List Page) (redo : ℕ)
+    → (read : IsChainRead (counts_of log) (end_of log) inputs pages redo)
+    → map (λ page. resume page log.records redo) pages ≡ redone_of log read.copies
+redone_pages log inputs pages redo read =
+    ap (λ (ps : List Page). map (λ page. resume page log.records redo) ps)
+    (read.made ∙ ap (contents read.copies) (last_count-counts_of log))
+    ∙ ap (λ (from : ℕ). map (λ page. resume page log.records from) (contents read.copies (page_count log))) read.last
+
+-- undo begins with this volume
+pub volume_redone : (files : Files) (log : Log) (losers : List TxnEntry) (count : ℕ) (pages : List Page)
+    → IsRedoneFrom files log losers count pages → HasRedone log pages [] pages
+volume_redone files log losers count pages from =
+    let n = page_count log in
+    let chain = contents from.copies n in
+    let redo = last_redo from.copies in
+    nothing_redone log pages
+    (ap length from.made ∙ length-map chain (λ page. resume page log.records redo)
+    ∙ length-map-range_with_len (content from.copies) 0 n)
+    (subst AreNumbered (sym from.made)
+    (numbered_resumed chain log.records redo (contents_numbered from.copies n from.parts.chain)))
+
+-- ---- what undo leaves
 
 -- where redo made the log's volume, undo leaves what was committed
 pub sound_of : (log : Log) (master : Master) (pages it : List Page) → IsLog log → IsLinked log.records
@@ -97,32 +129,20 @@ sound_of log master pages it valid linked made whole =
       committed = subst (HasCommitted log.records) (sym made) (undone_committed r valid linked whole);
     }
 
-unfoldable pub restored_of : (files : Files) (log : Log) (master : Master) (pages : List Page) (redo : ℕ) (it : List Page)
-    → IsOfLog files.log log → IsOfMaster files.master log.records master
-    → IsChainRead (counts_of log) (end_of log) files.archives pages redo → most_records log ≤ MAX_RECORDS
-    → it ≡ map (λ page. image_from page (appended log)) (map (λ page. resume page log.records redo) pages)
+unfoldable pub restored_of : (files : Files) (log : Log) (losers : List TxnEntry) (count : ℕ) (pages it : List Page)
+    → IsRedoneFrom files log losers count pages → it ≡ map (λ page. image_from page (appended log)) pages
     → IsRestoredFrom files it
-restored_of files log master pages redo it of_log of_master of_chain room made =
-    let copies = of_chain.copies in
-    let n = page_count log in
-    let same : map (λ page. resume page log.records redo) pages ≡ redone_of log copies =
-    ap (λ (ps : List Page). map (λ page. resume page log.records redo) ps)
-    (of_chain.made ∙ ap (contents copies) (last_count-counts_of log))
-    ∙ ap (λ (from : ℕ). map (λ page. resume page log.records from) (contents copies n)) of_chain.last in
+restored_of files log losers count pages it from made =
+    let of_log = from.parts.of_log in
     record {
       log = log;
-      master = master;
-      copies = copies;
-      parts = record {
-        of_log = of_log;
-        of_master = of_master;
-        of_archives = of_read log files.archives pages redo of_chain;
-        chain = of_chain.chain;
-      };
-      room = room;
-      made = made ∙ ap (map (λ page. image_from page (appended log))) same;
-      sound = λ covers. sound_of log master (map (λ page. resume page log.records redo) pages) it of_log.valid
-          of_log.linked made (same ∙ covering_whole log copies of_log.valid covers);
+      master = from.master;
+      copies = from.copies;
+      parts = from.parts;
+      room = from.to_undo.room;
+      made = made ∙ ap (map (λ page. image_from page (appended log))) from.made;
+      sound = λ covers. sound_of log from.master pages it of_log.valid of_log.linked made
+          (from.made ∙ covering_whole log from.copies of_log.valid covers);
     }
 
 -- restored pages stand in order of their numbers, so their bytes spell a volume
@@ -139,28 +159,7 @@ restored_spelled files pages it =
       spelled = refl;
     }
 
--- ---- what is answered
-
-pub all_restored : (r : Result (Vec Page Global) RestoreFault) (files : Files) (log : Log) (kept : Kept) (losers : List TxnEntry)
-    (master : Master) (pages : List Page) (redo : ℕ) → IsOfLog files.log log
-    → IsOfMaster files.master log.records master → IsChainRead (counts_of log) (end_of log) files.archives pages redo
-    → IsRead log kept losers pages
-    → IfOk r (λ it. (l : Log) → IsRead l kept losers pages
-    → it.items ≡ map (λ page. image_from page (appended l)) (map (λ page. resume page l.records redo) pages))
-    → OnOk r ((l : Log) → IsRead l kept losers pages → most_records l ≤ MAX_RECORDS)
-    → IfOk r (λ it. IsRestoredFrom files it.items)
-all_restored (Ok it) files log kept losers master pages redo of_log of_master of_chain read made room =
-    restored_of files log master pages redo it.items of_log of_master of_chain (room log read) (made log read)
-all_restored (Err e) files log kept losers master pages redo of_log of_master of_chain read made room = tt
-
-pub log_is_full : {X : Type 0} (r : Result X RestoreFault) (files : Files) (log : Log) (kept : Kept) (losers : List TxnEntry)
-    (master : Master) (pages : List Page) (copies : List CopyView) → HasParts files log master copies
-    → IsRead log kept losers pages
-    → IfErr r (λ fault. (fault ≡ LogFull) × ((l : Log) → IsRead l kept losers pages → MAX_RECORDS < most_records l))
-    → IfErr r (Refused files)
-log_is_full (Ok it) files log kept losers master pages copies parts read why = tt
-log_is_full (Err e) files log kept losers master pages copies parts read why =
-    of_undo log master copies parts why.0 (why.1 log read)
+-- ---- where they are refused
 
 -- the fault of the files is no fault of writing
 

@@ -2,26 +2,24 @@
 use Rattle.std.specs.Prelude.{ℕ, ◌≡◌, ◌+◌, ◌<◌, ◌≤◌, List, length, map, take, Option, IfSome}
 use Rattle.std.specs.Io.KnownBytes.{Appends, Keeps}
 use Rattle.page_core.specs.declared.page.Page.{Page}
-use Rattle.page_core.specs.Volume.{AreNumbered, SpellsVolume}
+use Rattle.page_core.specs.Volume.{SpellsVolume}
 use Rattle.log_records.specs.declared.limits.TheConstants.{MAX_RECORDS}
 use Rattle.log_records.specs.declared.record.Record.{Record}
 use Rattle.log_records.specs.Coverage.{resume}
 use Rattle.log_records.specs.Image.{image_from, redo_all}
-use Rattle.log_records.specs.Log.{IsLog, Log, page_count}
+use Rattle.log_records.specs.Log.{Log, page_count}
 use Rattle.log_rules.specs.Checkpoint.{IsCompleteCheckpoint}
-use Rattle.log_rules.specs.Linked.{IsLinked}
 use Rattle.log_rules.specs.Table.{TxnEntry}
 use Rattle.log_rules.specs.Transactions.{owed}
 use Rattle.log_store.specs.declared.fault.LogReadFault.{LogReadFault}
 use Rattle.log_store.specs.declared.master.Master.{Master}
 use Rattle.log_store.specs.Fault.{Refuses}
 use Rattle.log_store.specs.Master.{SpellsMaster}
-use Rattle.loser_undo.specs.Kept.{Kept, kept_of}
 use Rattle.image_copies.specs.Chain.{IsChain, contents, last_redo}
 use Rattle.image_copies.specs.Copy.{CopyView}
-use Rattle.loser_undo.specs.Losers.{losers_of}
 use Rattle.loser_undo.specs.Recovery.{HasCommitted, appended}
 use Rattle.loser_undo.specs.Undo.{after_undo}
+use Rattle.loser_undo.specs.UndoSink.{MayBeUndone}
 use Rattle.media_restore.specs.declared.files_fault.RestoreFault.{RestoreFault}
 use Rattle.media_restore.specs.declared.files_fault.RestoreFault.TheVariants.{OutOfMemory, LogFull}
 use Rattle.media_restore.specs.declared.files_fault.RestoreFault.TheVariants.{BadHeader, BadChain}
@@ -51,21 +49,22 @@ pub record HasParts (files : Files) (log : Log) (master : Master) (copies : List
   pub of_archives : AreOfArchives files.archives log copies
   pub chain : IsChain copies
 
--- this was kept of a log, these transactions are open at its end, and its volume has these pages
-pub record IsRead (log : Log) (k : Kept) (losers : List TxnEntry) (pages : List Page) : Type 0 where
-  pub valid : IsLog log
-  pub linked : IsLinked log.records
-  pub kept : k ≡ kept_of log
-  pub made : losers ≡ losers_of log.records
-  pub count : length pages ≡ page_count log
-  pub numbered : AreNumbered pages
-
 -- ---- what is made of it
 
 -- the pages of the chain, with redo of the log from the redo point of its last copy on
 abbrev pub redone_of : Log → List CopyView → List Page
 redone_of log copies = map (λ page. resume page log.records (last_redo copies))
     (contents copies (page_count log))
+
+-- the files have all parts, and these are what undo goes on with: the losers of their log, which has
+-- so many records and room for those of undo, and the pages of their chain with redo of the log
+pub record IsRedoneFrom (files : Files) (log : Log) (losers : List TxnEntry) (count : ℕ)
+    (pages : List Page) : Type 0 where
+  pub master : Master
+  pub copies : List CopyView
+  pub parts : HasParts files log master copies
+  pub to_undo : MayBeUndone log losers count
+  pub made : pages ≡ redone_of log copies
 
 -- and with the records on them that undo appends to the log
 abbrev pub restored : Log → List CopyView → List Page

@@ -1,22 +1,17 @@
 //! Restores a volume from files: a log, its master record and the archives of a chain.
 
-ghost use Rattle.std.specs.Prelude.{◌≡◌, ◌<◌, ◌≤◌, map, IfOk, IfErr, OnOk};
-ghost use Rattle.log_records.specs.Coverage.{resume};
-ghost use Rattle.log_records.specs.Image.{image_from};
+ghost use Rattle.std.specs.Prelude.{◌≡◌, map, IfOk, IfErr, OnOk};
 ghost use Rattle.log_records.specs.Log.{Log};
-ghost use Rattle.log_records.specs.declared.limits.TheConstants.{MAX_RECORDS};
-ghost use Rattle.loser_undo.specs.Recovery.{appended};
-ghost use Rattle.media_restore.specs.Files.{IsRead, IsRestoredFrom, Leaves, Refused, WritesVolume};
-ghost use Rattle.media_restore.specs.Files.{most_records};
+ghost use Rattle.media_restore.specs.Files.{IsRedoneFrom, Leaves, Refused, WritesVolume};
 ghost use Rattle.media_restore.specs.FilesStop.{AreReadWhole, StopsIn};
-ghost use Rattle.media_restore.specs.declared.files_fault.RestoreFault.TheVariants.{LogFull};
 
 use crate::files_fault::RestoreFault;
 use crate::files_master::read_master;
 use copy_vault::read_chain_pages;
 use log_records::MAX_RECORDS;
-use loser_undo::{LogChanges, read_changes, undo_open};
-use page_core::{Lsn, PAGE_BYTES, Page, zeros};
+use log_store::RecordSink;
+use loser_undo::{ReadLog, read_changes_and, undo_into};
+use page_core::{PAGE_BYTES, Page, zeros};
 use page_redo::{redo_changes, write_volume};
 use std::alloc::Global;
 use std::io::{Read, Write};
@@ -91,7 +86,13 @@ pub fn restore_files<L: Read, M: Read, A: Read, W: Write>(
           archives = map (λ a. A.remaining a) archives.new;
         })) }
 {
-    let pages = restored(rt, alloc, log, master, archives)?;
+    let ReadFiles {
+        losers,
+        count,
+        mut pages,
+        ..
+    } = read_files::<L, M, A, ()>(rt, alloc, log, master, archives)?;
+    undo_into(losers, count, &mut pages);
     let mut buffer = zeros(alloc, BUFFER_PAGES * PAGE_BYTES)?;
     match write_volume(writer, &pages, &mut buffer) {
         Ok(()) => Ok(()),
@@ -99,20 +100,33 @@ pub fn restore_files<L: Read, M: Read, A: Read, W: Write>(
     }
 }
 
-/// Reads the files, and makes the pages of the volume.
-fn restored<L: Read, M: Read, A: Read>(
+/// The files are read, and the log is redone over the pages of the chain.
+#[derive(Drop)]
+pub(crate) struct ReadFiles<K> {
+    /// What a sink keeps of the log.
+    pub(crate) kept: K,
+    /// The transactions that are open at its end.
+    pub(crate) losers: Losers,
+    /// How many records it has.
+    pub(crate) count: usize,
+    pub(crate) pages: Vec<Page>,
+}
+
+/// Reads the files, sees that undo has room, and redoes the log over the pages of the chain from the
+/// redo point of the last copy on. A sink takes the records of the log besides.
+pub(crate) fn read_files<L: Read, M: Read, A: Read, K: RecordSink + Drop>(
     rt: &(impl Threads + Sync),
     alloc: Global,
     log: &mut L,
     master: &mut M,
     archives: &mut [A],
-) -> Result<Vec<Page>, RestoreFault>
-    ensures ok { IfOk result (λ pages. IsRestoredFrom
+) -> Result<ReadFiles<K>, RestoreFault>
+    ensures ok { IfOk result (λ it. (found : Log) × (K.holds it.kept found × IsRedoneFrom
         (record {
           log = L.remaining log.old;
           master = M.remaining master.old;
           archives = map (λ a. A.remaining a) archives.old;
-        }) pages.items) }
+        }) found it.losers it.count it.pages.items)) }
     ensures err { IfErr result (Refused
         (record {
           log = L.remaining log.old;
@@ -143,33 +157,22 @@ fn restored<L: Read, M: Read, A: Read>(
           archives = map (λ a. A.remaining a) archives.new;
         })) }
 {
-    let (kept, losers) = read_changes(alloc, log)?;
-    read_master(master, &kept)?;
-    let (pages, redo) = read_chain_pages(alloc, archives, kept.counts(), kept.end())?;
-    recovered(rt, kept, losers, pages, redo)
-}
-
-/// Redoes the changes of a log from a redo point on, and undoes the transactions that are open at
-/// its end. These take no memory.
-fn recovered(
-    rt: &(impl Threads + Sync),
-    kept: LogChanges,
-    losers: Losers,
-    mut pages: Vec<Page>,
-    redo: Lsn,
-) -> Result<Vec<Page>, RestoreFault>
-    requires { (log : Log) × IsRead log kept losers pages.items }
-    ensures made { IfOk result (λ it. (log : Log) → IsRead log kept losers pages.items
-        → it.items ≡ map (λ page. image_from page (appended log))
-        (map (λ page. resume page log.records redo) pages.items)) }
-    ensures room { OnOk result ((log : Log) → IsRead log kept losers pages.items
-        → most_records log ≤ MAX_RECORDS) }
-    ensures err { IfErr result (λ fault. (fault ≡ LogFull) × ((log : Log)
-        → IsRead log kept losers pages.items → MAX_RECORDS < most_records log)) }
-{
-    if kept.count() as u64 + losers.owed() > MAX_RECORDS as u64 {
+    let ReadLog {
+        changes,
+        kept,
+        losers,
+    } = read_changes_and::<L, K>(alloc, log)?;
+    read_master(master, &changes)?;
+    let (mut pages, redo) = read_chain_pages(alloc, archives, changes.counts(), changes.end())?;
+    let count = changes.count();
+    if count as u64 + losers.owed() > MAX_RECORDS as u64 {
         return Err(RestoreFault::LogFull);
     }
-    redo_changes(rt, &mut pages, kept.changes(), redo);
-    Ok(undo_open(losers, kept.count(), pages))
+    redo_changes(rt, &mut pages, changes.changes(), redo);
+    Ok(ReadFiles {
+        kept,
+        losers,
+        count,
+        pages,
+    })
 }

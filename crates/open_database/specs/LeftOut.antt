@@ -8,7 +8,7 @@ use Rattle.saved_files.specs.Folder.{Changes, Entries, Puts}
 
 -- the bytes behind a log in its file
 abbrev pub behind : FoundLog → List ℕ
-behind found = drop (end_of found.log) found.bytes.items
+behind found = drop (end_of found.front.log) found.bytes.items
 
 -- they are as many as a record has, and not zeros alone
 pub record IsWorthKeeping (bytes : List ℕ) : Type 0 where

@@ -33,7 +33,6 @@ use saved_files::Folder;
 use std::alloc::AllocError;
 use std::fs::File;
 use std::io::Write;
-use std::thread::Threads;
 use std::{fs, io};
 use system_files::{Noted, Notes, Patient, SystemFolder};
 
@@ -68,7 +67,7 @@ pub enum OpenEnd {
 /// Opens the database in a folder, or makes a new one there, and answers the lines of standard
 /// input to its end. The folder and the log are this call's alone until then. Then each dirty page
 /// is written, and where the log ends is noted.
-pub fn open_folder<R: Threads + Sync>(rt: &HostRuntime, threads: &R, call: &OpenCall<'_>) -> OpenEnd
+pub fn open_folder(rt: &HostRuntime, call: &OpenCall<'_>) -> OpenEnd
     requires pages { IfSome call.now.pages IsPageCount }
     requires frames { IsFrameCount call.now.frames }
 {
@@ -84,7 +83,7 @@ pub fn open_folder<R: Threads + Sync>(rt: &HostRuntime, threads: &R, call: &Open
         return OpenEnd::Failed;
     };
     let mut folder = SystemFolder::new(rt, rt.alloc(), call.folder, &notes);
-    match opened(&teller, threads, &mut folder, call, &store_notes) {
+    match opened(&teller, &mut folder, call, &store_notes) {
         Ok(opened) => served(
             &teller,
             folder,
@@ -110,9 +109,8 @@ fn held(rt: &HostRuntime) -> [io::Result<File>; 3] {
 }
 
 /// Claims the folder and opens the database in it.
-fn opened<'a, F: ClaimsSoon, R: Threads + Sync>(
+fn opened<'a, F: ClaimsSoon>(
     teller: &Teller<'_>,
-    threads: &R,
     folder: &mut F,
     call: &OpenCall<'_>,
     notes: &'a Notes,
@@ -129,13 +127,12 @@ fn opened<'a, F: ClaimsSoon, R: Threads + Sync>(
     folder.claim_or_wait()?;
     let there = Inventory::of(teller.rt, call.folder)?;
     let log = open_log(teller.rt, call.folder)?;
-    open_from(teller, threads, folder, call, log, &there, notes)
+    open_from(teller, folder, call, log, &there, notes)
 }
 
 /// Opens the database whose log has this file, or makes a new one where that never had a header.
-fn open_from<'a, F: Folder, R: Threads + Sync>(
+fn open_from<'a, F: Folder>(
     teller: &Teller<'_>,
-    threads: &R,
     folder: &mut F,
     call: &OpenCall<'_>,
     log: Option<LogFile>,
@@ -154,7 +151,7 @@ fn open_from<'a, F: Folder, R: Threads + Sync>(
     };
     match log.is_headless() {
         Ok(true) => begun(teller, folder, call, Some(log.file), there, notes),
-        Ok(false) => reopen(teller, threads, folder, call, log, there, notes),
+        Ok(false) => reopen(teller, folder, call, log, there, notes),
         Err(error) => Err(of_log(error)),
     }
 }

@@ -40,7 +40,6 @@ use log_store::LogImage;
 use page_core::Lsn;
 use saved_files::Folder;
 use std::alloc::{AllocError, Global};
-use std::thread::Threads;
 use system_files::Notes;
 
 /// An engine that goes on with a database of an older life.
@@ -74,9 +73,8 @@ struct Others {
 /// Opens a database again from the file of its log, and from those of the copies there that are
 /// sound. The volume is made anew. Where the log lacks what was forced, it is not opened, unless the
 /// call says that what is left is to be opened.
-pub(crate) fn reopen<'a, F: Folder, R: Threads + Sync>(
+pub(crate) fn reopen<'a, F: Folder>(
     teller: &Teller<'_>,
-    threads: &R,
     folder: &mut F,
     call: &OpenCall<'_>,
     log: LogFile,
@@ -92,16 +90,15 @@ pub(crate) fn reopen<'a, F: Folder, R: Threads + Sync>(
     let mut remains = find(teller, log, there)?;
     prepare(teller, folder, call, there, &mut remains)?;
     let Remains { log, others } = remains;
-    go_on(teller, threads, folder, call, log, others, notes)
+    go_on(teller, folder, call, log, others, notes)
 }
 
 /// Reads what stands in a folder. It writes nothing.
 fn find(teller: &Teller<'_>, log: LogFile, there: &Inventory) -> Result<Remains, OpenFault>
     ensures whole { IfOk result (λ it. length it.log.bytes.items ≡ log.len) }
-    ensures front { IfOk result (λ it.
-        IsFrontOf it.log.bytes.items (record { log = it.log.log; cut = it.log.cut })) }
-    ensures linked { IfOk result (λ it. IsLinked it.log.log.records) }
-    ensures lasting { IfOk result (λ it. LastsOnFile it.log.log it.log.device) }
+    ensures front { IfOk result (λ it. IsFrontOf it.log.bytes.items it.log.front) }
+    ensures linked { IfOk result (λ it. IsLinked it.log.front.log.records) }
+    ensures lasting { IfOk result (λ it. LastsOnFile it.log.front.log it.log.device) }
     ensures copies { IfOk result (λ it.
         map (λ file. file.id) it.others.copies.items ≡ there.now.copies.items) }
 {
@@ -147,24 +144,25 @@ fn prepare<F: Folder>(
     there: &Inventory,
     remains: &mut Remains,
 ) -> Result<(), OpenFault>
-    requires lasting { LastsOnFile remains.old.log.log remains.old.log.device }
+    requires lasting { LastsOnFile remains.old.log.front.log remains.old.log.device }
     requires claimed { F.is_claimed folder.old }
-    ensures whole { OnOk result (call.now.salvage ≡ false → LacksNothing (end_of remains.old.log.log)
+    ensures whole { OnOk result (call.now.salvage ≡ false
+        → LacksNothing (end_of remains.old.log.front.log)
         remains.old.others.note (spelled remains.old.others.master)
         remains.old.others.copies.items remains.old.log.bytes.items) }
-    ensures log { remains.new.log.log ≡ remains.old.log.log }
+    ensures log { remains.new.log.front.log ≡ remains.old.log.front.log }
     ensures others { remains.new.others ≡ remains.old.others }
-    ensures lasting { OnOk result (LastsOnFile remains.new.log.log remains.new.log.device) }
+    ensures lasting { OnOk result (LastsOnFile remains.new.log.front.log remains.new.log.device) }
     // What stood behind the log has a file of its own,
-    ensures kept { OnOk result (remains.old.log.cut ≢ None
+    ensures kept { OnOk result (remains.old.log.front.cut ≢ None
         → IsWorthKeeping (behind remains.old.log)
         → WasKept (behind remains.old.log) (F.entries folder.new)) }
     // and is gone from the log's for certain, before any record is stored there.
-    ensures alone { OnOk result (remains.old.log.cut ≢ None
-        → (known_of remains.new.log.device).bytes ≡ log_bytes remains.new.log.log) }
+    ensures alone { OnOk result (remains.old.log.front.cut ≢ None
+        → (known_of remains.new.log.device).bytes ≡ log_bytes remains.new.log.front.log) }
     ensures claimed { F.is_claimed folder.new }
 {
-    check_count(call, remains.log.log.page_count())?;
+    check_count(call, remains.log.front.log().page_count())?;
     check_volume(teller.rt, call.folder)?;
     let loss = check_loss(teller, call, remains)?;
     there.clear(teller.rt)?;
@@ -187,7 +185,8 @@ fn check_loss(
     call: &OpenCall<'_>,
     remains: &Remains,
 ) -> Result<Loss, OpenFault>
-    ensures { OnOk result (call.now.salvage ≡ false → LacksNothing (end_of remains.now.log.log)
+    ensures { OnOk result (call.now.salvage ≡ false
+        → LacksNothing (end_of remains.now.log.front.log)
         remains.now.others.note (spelled remains.now.others.master)
         remains.now.others.copies.items remains.now.log.bytes.items) }
 {
@@ -203,12 +202,13 @@ fn check_loss(
 }
 
 fn loss_of(alloc: Global, remains: &Remains) -> Result<Loss, AllocError>
-    ensures { IfOk result (λ loss. loss.claims.items ≡ [] → LacksNothing (end_of remains.now.log.log)
+    ensures { IfOk result (λ loss. loss.claims.items ≡ []
+        → LacksNothing (end_of remains.now.log.front.log)
         remains.now.others.note (spelled remains.now.others.master)
         remains.now.others.copies.items remains.now.log.bytes.items) }
 {
     let (found, others) = (&remains.log, &remains.others);
-    let mut loss = Loss::new(alloc, found.log.end(), found.cut);
+    let mut loss = Loss::new(alloc, found.front.log().end(), found.front.cut());
     loss.hear_note(others.note)?;
     loss.hear_master(others.master.spelled())?;
     loss.hear_copies(&others.copies)?;
@@ -243,24 +243,25 @@ fn settle<F: Folder>(
     there: &Inventory,
     remains: &mut Remains,
 ) -> Result<(), OpenFault>
-    requires lasting { LastsOnFile remains.old.log.log remains.old.log.device }
+    requires lasting { LastsOnFile remains.old.log.front.log remains.old.log.device }
     requires claimed { F.is_claimed folder.old }
-    ensures log { remains.new.log.log ≡ remains.old.log.log }
+    ensures log { remains.new.log.front.log ≡ remains.old.log.front.log }
     ensures others { remains.new.others ≡ remains.old.others }
-    ensures lasting { OnOk result (LastsOnFile remains.new.log.log remains.new.log.device) }
+    ensures lasting { OnOk result (LastsOnFile remains.new.log.front.log remains.new.log.device) }
     // What stood behind the log has a file of its own,
-    ensures kept { OnOk result (remains.old.log.cut ≢ None
+    ensures kept { OnOk result (remains.old.log.front.cut ≢ None
         → IsWorthKeeping (behind remains.old.log)
         → IsKept (F.entries folder.old) (behind remains.old.log) (F.entries folder.new)) }
     // and is gone from the log's for certain, before any record is stored there.
-    ensures alone { OnOk result (remains.old.log.cut ≢ None
-        → (known_of remains.new.log.device).bytes ≡ log_bytes remains.new.log.log) }
+    ensures alone { OnOk result (remains.old.log.front.cut ≢ None
+        → (known_of remains.new.log.device).bytes ≡ log_bytes remains.new.log.front.log) }
     ensures claimed { F.is_claimed folder.new }
 {
     keep_behind(teller, folder, &remains.log)?;
     forget_closing(teller, folder, there)?;
     let found = &mut remains.log;
-    if found.cut.is_some() || !is_vouched(remains.others.note, found.log.end()) {
+    let (front, note) = (&found.front, remains.others.note);
+    if front.cut().is_some() || !is_vouched(note, front.log().end()) {
         keep_front(found)?;
     }
     Ok(())
@@ -273,13 +274,13 @@ fn keep_behind<F: Folder>(
     found: &FoundLog,
 ) -> Result<(), OpenFault>
     requires { F.is_claimed folder.old }
-    ensures kept { OnOk result (found.now.cut ≢ None → IsWorthKeeping (behind found.now)
+    ensures kept { OnOk result (found.now.front.cut ≢ None → IsWorthKeeping (behind found.now)
         → IsKept (F.entries folder.old) (behind found.now) (F.entries folder.new)) }
     ensures claimed { F.is_claimed folder.new }
 {
-    match &found.cut {
+    match found.front.cut() {
         Some(cut) => {
-            teller.tell_cut(cut, found.behind().len());
+            teller.tell_cut(&cut, found.behind().len());
             put_aside(teller, folder, found.behind())
         }
         None => Ok(()),
@@ -305,10 +306,10 @@ fn forget_closing<F: Folder>(
 
 /// Stores the log again, and has it alone last on its file.
 fn keep_front(found: &mut FoundLog) -> Result<(), OpenFault>
-    ensures log { found.new.log ≡ found.old.log }
-    ensures lasting { OnOk result (LastsOnFile found.new.log found.new.device) }
+    ensures front { found.new.front ≡ found.old.front }
+    ensures lasting { OnOk result (LastsOnFile found.new.front.log found.new.device) }
     ensures alone { OnOk result
-        ((known_of found.new.device).bytes ≡ log_bytes found.new.log) }
+        ((known_of found.new.device).bytes ≡ log_bytes found.new.front.log) }
 {
     match found.keep_front() {
         Ok(()) => Ok(()),
@@ -325,9 +326,8 @@ fn is_vouched(note: Option<ClosedNote>, end: Lsn) -> bool {
 }
 
 /// Goes on from what was found.
-fn go_on<'a, F: Folder, R: Threads + Sync>(
+fn go_on<'a, F: Folder>(
     teller: &Teller<'_>,
-    threads: &R,
     folder: &mut F,
     call: &OpenCall<'_>,
     found: FoundLog,
@@ -335,16 +335,15 @@ fn go_on<'a, F: Folder, R: Threads + Sync>(
     notes: &'a Notes,
 ) -> Result<Reopened<'a>, OpenFault>
     requires frames { IsFrameCount call.now.frames }
-    requires linked { IsLinked found.log.records }
-    requires lasting { LastsOnFile found.log found.device }
+    requires lasting { LastsOnFile found.front.log found.device }
     requires claimed { F.is_claimed folder.old }
     ensures goes_on { IfOk result (λ it.
-        GoesOnWith found.log others.copies.items it.engine.state) }
+        GoesOnWith found.front.log others.copies.items it.engine.state) }
     ensures unread { IfOk result (λ it. it.unread.items ≡ ids_unread others.copies.items) }
     ensures claimed { F.is_claimed folder.new }
 {
-    let facts = Facts::of(&found.log, &others.master);
-    let (mut restarted, device) = restart_on(threads, teller.rt.alloc(), found)?;
+    let facts = Facts::of(found.front.log(), &others.master);
+    let (mut restarted, device) = restart_on(teller.rt.alloc(), found)?;
     let first = facts.first_line(&restarted);
     let (store, unread) = equip(teller, folder, call, &mut restarted, others.copies, notes)?;
     let engine = restarted.into_engine(teller.rt.alloc(), call.frames, store, device)?;
@@ -393,25 +392,20 @@ impl Facts {
 }
 
 /// Takes back what was open in a log that was found.
-fn restart_on<R: Threads + Sync>(
-    threads: &R,
-    alloc: Global,
-    found: FoundLog,
-) -> Result<(Restarted, FileLog), OpenFault>
-    requires linked { IsLinked found.log.records }
-    requires lasting { LastsOnFile found.log found.device }
-    ensures log { IfOk result (λ it. it.0.log ≡ undone_log found.log) }
+fn restart_on(alloc: Global, found: FoundLog) -> Result<(Restarted, FileLog), OpenFault>
+    requires lasting { LastsOnFile found.front.log found.device }
+    ensures log { IfOk result (λ it. it.0.log ≡ undone_log found.front.log) }
     ensures copies { IfOk result (λ it. it.0.copies ≡ []) }
     ensures lasting { IfOk result (λ it. LastsOnFile it.0.log it.1) }
 {
     let FoundLog {
-        log,
+        front,
         bytes,
         device,
         ..
     } = found;
     drop(bytes);
-    match restart(threads, alloc, log, device) {
+    match restart(alloc, front, device) {
         Ok(it) => Ok(it),
         Err((fault, device)) => Err(OpenFault::Restart(fault, code_of(device.error()))),
     }

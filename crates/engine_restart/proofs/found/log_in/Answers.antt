@@ -1,5 +1,5 @@
-use Rattle.std.proofs.Common.{◌≡◌, length, take, sym, subst, ◌∙◌}
-use Rattle.log_records.specs.Log.{Log, format_in, log_bytes, lsn_of}
+use Rattle.std.proofs.Common.{◌≡◌, ◌∙◌}
+use Rattle.log_records.specs.Log.{format_in}
 use Rattle.log_records.proofs.Public.{format_in-header}
 use Rattle.page_core.specs.declared.format.Format.TheVariants.{Second}
 use Rattle.engine_restart.proofs.Founds.{header_in_front, in_second, none_some}
@@ -11,8 +11,7 @@ returns-in-Second-clause-spelled c =
     let header = c.in-Some.header in
     let second : format_in bytes ≡ Second =
     format_in-header header.format header.pages bytes c.in-Some.ensures.found.spelled ∙ c.in-Second.is in
-    subst (λ (log : Log). take (lsn_of (length log.records)) bytes ≡ log_bytes log) (sym c.into_parts.ensures.parts.0)
-    (in_second c.in_ok-front.front.log bytes c.in_ok-front.ensures.found.longest.front.spells second)
+    in_second c.in_ok-front.front.log bytes c.in_ok-front.ensures.found.longest.front.spells second
 
 pub returns-in-First-clause-none : goal.returns-in-First-clause-none
 returns-in-First-clause-none c =

@@ -14,5 +14,5 @@ returns-in-Ok-log_in-clause-lasting c =
     sym (c.deref.ensures.value ∙ (ap (λ n. take n (new ++ rest)) long ∙ take-append_seam new rest)) in
     let has : (known_of c.in-Ok.device).bytes ≡ known = c.in-Ok.ensures.bytes ∙ same in
     let lasts : (known_of c.in-Ok.device).lasting ≡ length known = c.in-Ok.ensures.lasts ∙ ap length same in
-    has_lasting (λ calls. (known_of calls).bytes) (λ calls. (known_of calls).lasting) c.in-Ok-log_in.log
+    has_lasting (λ calls. (known_of calls).bytes) (λ calls. (known_of calls).lasting) c.in-Ok-log_in.front.log
     c.in-Ok.device known has lasts c.in-Ok-log_in.ensures.spelled c.in-Ok-log_in.ensures.front.longest.front.spells

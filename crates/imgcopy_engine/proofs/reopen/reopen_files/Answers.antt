@@ -1,5 +1,8 @@
 use Rattle.std.proofs.Common.{subst, sym, ◌∙◌}
-use Rattle.log_records.specs.Log.{Log}
+use Rattle.std.specs.Prelude.{Option}
+use Rattle.log_front.specs.Front.{IsFrontOf}
+use Rattle.log_front.specs.declared.cut.Cut.{Cut}
+use Rattle.log_records.specs.Log.{IsLog, Log}
 use Rattle.engine_rules.specs.EngineState.{EngineState, log_of}
 use Rattle.engine_restart.specs.LogFile.{LastsOnFile, WasReadWhole}
 use Rattle.engine_restart.specs.Lives.{GoesOnFrom}
@@ -9,39 +12,40 @@ use Rattle.imgcopy_engine.proofs.PagesFound.{are_counted, are_numbered}
 use Rattle.imgcopy_engine.proofs.reopen.reopen_files.Goals as goal
 
 pub store_of-requires-clause-some : goal.store_of-requires-clause-some
-store_of-requires-clause-some g c =
-    (are_counted c.in_ok-log.field-0.log c.take_up.new.restarted.log c.pages.result.now
-    c.pages-count.ensures.valid
+store_of-requires-clause-some c =
+    (are_counted c.in_ok-front.field-0.front.log c.take_up.new.restarted.log c.pages.result.now
+    (subst IsLog c.log.ensures.log c.pages-count.ensures.valid)
     (c.take_up.ensures.log ∙ c.in-Ok.ensures.log) (c.pages.ensures.pages ∙ c.pages.ensures.kept.pages)).least
 
 pub store_of-requires-clause-few : goal.store_of-requires-clause-few
-store_of-requires-clause-few g c =
-    (are_counted c.in_ok-log.field-0.log c.take_up.new.restarted.log c.pages.result.now
-    c.pages-count.ensures.valid
+store_of-requires-clause-few c =
+    (are_counted c.in_ok-front.field-0.front.log c.take_up.new.restarted.log c.pages.result.now
+    (subst IsLog c.log.ensures.log c.pages-count.ensures.valid)
     (c.take_up.ensures.log ∙ c.in-Ok.ensures.log) (c.pages.ensures.pages ∙ c.pages.ensures.kept.pages)).most
 
 pub store_of-requires-clause-numbered : goal.store_of-requires-clause-numbered
-store_of-requires-clause-numbered g c = are_numbered c.take_up.new.restarted.log c.pages.result.now
+store_of-requires-clause-numbered c = are_numbered c.take_up.new.restarted.log c.pages.result.now
     (c.pages.ensures.pages ∙ c.pages.ensures.kept.pages)
 
 pub into_engine-requires-clause-device : goal.into_engine-requires-clause-device
-into_engine-requires-clause-device g c =
+into_engine-requires-clause-device c =
     subst (λ (log : Log). LastsOnFile log c.in-Ok.it.1) (sym c.take_up.ensures.log) c.in-Ok.ensures.device
 
 pub returns-in-Ok-into_engine : goal.returns-in-Ok-into_engine
-returns-in-Ok-into_engine g c =
-    let found = c.in_ok-log.field-0 in
+returns-in-Ok-into_engine c =
+    let found = c.in_ok-front.field-0 in
     let bytes = found.bytes.items in
     let undone = c.in-Ok.it in
-    let go_on = calls_go_on found.log undone.0.log found.device undone.1 c.in-Ok.ensures.called in
+    let go_on = calls_go_on found.front.log undone.0.log found.device undone.1 c.in-Ok.ensures.called in
     let it = c.in-Ok-into_engine in
     record {
       goes_on = record {
         bytes = bytes;
-        log = found.log;
+        log = found.front.log;
         read = subst (WasReadWhole c.args.log.1 bytes) (sym it.ensures.device)
-            (still_read c.args.log.1 bytes found.device undone.1 c.in_ok-log.ensures.read go_on);
-        front = c.in_ok-log.ensures.front;
+            (still_read c.args.log.1 bytes found.device undone.1 c.in_ok-front.ensures.read go_on);
+        front = subst (λ (cut : Option Cut). IsFrontOf bytes (record { log = found.front.log; cut = cut }))
+            (sym c.cut-cut.ensures) c.in_ok-front.ensures.front;
         goes_on = subst (λ (l : Log). GoesOnFrom l it.engine.state)
             (c.take_up.ensures.log ∙ c.in-Ok.ensures.log) it.ensures.goes_on;
       };

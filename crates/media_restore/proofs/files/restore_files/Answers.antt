@@ -1,13 +1,12 @@
-use Rattle.std.proofs.Common.{map, sym, subst}
+use Rattle.std.proofs.Common.{◌∙◌, map}
 use Rattle.std.proofs.lemmas.Result.{err_from_is_err_and}
-use Rattle.media_restore.specs.Files.{Files, IsRestoredFrom}
-use Rattle.media_restore.specs.FilesStop.{behind_all}
+use Rattle.media_restore.specs.Files.{Files}
 use Rattle.page_core.specs.Page.{volume_bytes}
-use Rattle.media_restore.proofs.Restored.{leaves, restored_spelled}
+use Rattle.media_restore.proofs.Restored.{leaves, restored_of, restored_spelled, volume_redone}
 use Rattle.media_restore.proofs.files.restore_files.Goals as goal
 
-pub returns-in_err-pages-clause-err : goal.returns-in_err-pages-clause-err
-returns-in_err-pages-clause-err g c =
+pub returns-in_err-losers-clause-err : goal.returns-in_err-losers-clause-err
+returns-in_err-losers-clause-err g c =
     let files : Files = record {
       log = g.L.Read.remaining c.args.log.now;
       master = g.M.Read.remaining c.args.master.now;
@@ -15,20 +14,17 @@ returns-in_err-pages-clause-err g c =
     } in
     let p = err_from_is_err_and c.from_residual.result c.from_residual.ensures.1 in
     rw (p.1, p.2)
-    (leaves files (g.W.Write.contents c.args.writer.now) c.in_err-pages.field-0.0 c.in_err-pages.ensures.err)
+    (leaves files (g.W.Write.contents c.args.writer.now) c.in_err-losers.field-0.0 c.in_err-losers.ensures.err)
 
-pub returns-in_err-pages-clause-stops : goal.returns-in_err-pages-clause-stops
-returns-in_err-pages-clause-stops g c =
-    let p = err_from_is_err_and c.from_residual.result c.from_residual.ensures.1 in
-    rw (p.1, p.2) c.in_err-pages.ensures.stops
-
-pub returns-in_err-buffer-clause-stops : goal.returns-in_err-buffer-clause-stops
-returns-in_err-buffer-clause-stops g c =
-    let p = err_from_is_err_and c.from_residual-in_err-buffer.result c.from_residual-in_err-buffer.ensures.1 in
-    rw (p.1, p.2) (behind_all tt c.in_ok-pages.ensures.end)
-
-pub returns-clause-stops : goal.returns-clause-stops
-returns-clause-stops g c = behind_all tt c.in_ok-pages.ensures.end
+pub undo_into-requires : goal.undo_into-requires
+undo_into-requires g c =
+    let files : Files = record {
+      log = g.L.Read.remaining c.args.log.now;
+      master = g.M.Read.remaining c.args.master.now;
+      archives = map g.A.Read.remaining c.args.archives.now;
+    } in
+    let from = c.in_ok-losers.ensures.ok in
+    (from.0, (from.1.1.to_undo, volume_redone files from.0 _ _ _ from.1.1))
 
 pub returns-in-Ok-clause-ok : goal.returns-in-Ok-clause-ok
 returns-in-Ok-clause-ok g c =
@@ -37,13 +33,16 @@ returns-in-Ok-clause-ok g c =
       master = g.M.Read.remaining c.args.master.now;
       archives = map g.A.Read.remaining c.args.archives.now;
     } in
+    let from = c.in_ok-losers.ensures.ok in
+    let took = c.undo_into.ensures from.0 from.1.1.to_undo (volume_redone files from.0 _ _ _ from.1.1) in
     let pages = c.deref.result.now in
-    let from = subst (IsRestoredFrom files) (sym c.deref.ensures.value) c.in_ok-pages.ensures.ok in
+    let restored = restored_of files from.0 _ _ _ pages from.1.1
+    (c.deref.ensures.value ∙ took.made) in
     record {
       pages = pages;
-      from = from;
+      from = restored;
       volume = volume_bytes pages;
-      spells = restored_spelled files pages from;
+      spells = restored_spelled files pages restored;
       written = c.in-Ok.ensures.ok;
     }
 
@@ -54,13 +53,16 @@ returns-clause-err g c =
       master = g.M.Read.remaining c.args.master.now;
       archives = map g.A.Read.remaining c.args.archives.now;
     } in
+    let from = c.in_ok-losers.ensures.ok in
+    let took = c.undo_into.ensures from.0 from.1.1.to_undo (volume_redone files from.0 _ _ _ from.1.1) in
     let pages = c.deref.result.now in
-    let from = subst (IsRestoredFrom files) (sym c.deref.ensures.value) c.in_ok-pages.ensures.ok in
+    let restored = restored_of files from.0 _ _ _ pages from.1.1
+    (c.deref.ensures.value ∙ took.made) in
     record {
       pages = pages;
-      from = from;
+      from = restored;
       volume = volume_bytes pages;
-      spells = restored_spelled files pages from;
+      spells = restored_spelled files pages restored;
       within = c.in-Err.ensures.within;
       written = c.in-Err.ensures.err;
     }

@@ -1,4 +1,4 @@
-use Rattle.std.proofs.Common.{◌<◌, ◌≤◌, ℕ, subst, ◌∙◌}
+use Rattle.std.proofs.Common.{◌<◌, ◌≤◌, ℕ, ap, subst, ◌∙◌}
 use Rattle.std.specs.Prelude.{IfSome}
 use Rattle.std.specs.List.{All}
 use Rattle.log_front.specs.Front.{end_of}
@@ -20,9 +20,9 @@ returns c =
     let c2 = c.hear_master.new.self.claims.items in
     let c3 = c.hear_copies.new.self.claims.items in
     let c4 = c.look_behind.new.self.claims.items in
-    heard_all (end_of remains.log.log) e0 e1 e2 e3 c0 c1 c2 c3 c4 remains.others.note (spelled remains.others.master)
+    heard_all (end_of remains.log.front.log) e0 e1 e2 e3 c0 c1 c2 c3 c4 remains.others.note (spelled remains.others.master)
     remains.others.copies.items remains.log.bytes.items
-    (c.new-loss.ensures.end ∙ c.end.ensures)
+    (c.new-loss.ensures.end ∙ c.end.ensures ∙ ap end_of c.log.ensures.log)
     c.hear_note.ensures.end c.hear_master.ensures.end c.hear_copies.ensures.end
     c.in_ok-hear_note.ensures.heard
     (subst (λ master. Hears c1 c2 (IfSome master (λ it. it.end < e1))) c.spelled.ensures
