@@ -1,5 +1,4 @@
 mod CopyHeaders
-mod Points
 mod Slots
 mod Reading
 mod Apart

@@ -24,7 +24,7 @@ pub use input::read_file;
 pub use kind::{FileKind, kind_of};
 pub use laws::{lines_are_told_apart, listings_are_told_apart};
 pub use lines::{Form, Lines};
-pub use log_summary::{CkptPoint, LogSummary};
+pub use log_summary::LogSummary;
 pub use page_row::put_page;
 pub use record_line::put_record;
 pub use show::show_file;

@@ -1,20 +1,10 @@
-//! What is noted of a log while it is read.
+//! What a log comes to.
 
-ghost use Rattle.std.specs.Prelude.{◌≡◌};
-ghost use Rattle.file_view.specs.Summary.{IsSummaryOf, point_after, points_after};
+ghost use Rattle.log_records.specs.Log.{Log};
+ghost use Rattle.log_store.specs.Analysis.{IsAnalysisOf};
+ghost use Rattle.file_view.specs.Summary.{IsSummaryOf};
 
-use log_records::Record;
-use log_store::RecordSink;
-use page_core::Lsn;
-use std::alloc::{AllocError, Global};
-
-/// A complete checkpoint: the LSNs of its BeginChkpt and of its EndChkpt, and its redo point.
-#[derive(Clone, Copy, Debug, PartialEq, Eq)]
-pub struct CkptPoint {
-    pub begin: Lsn,
-    pub end: Lsn,
-    pub redo: Lsn,
-}
+use log_store::{Analysis, CkptPoint};
 
 /// How many records a log has, and its last complete checkpoint.
 #[derive(Clone, Copy, Debug, PartialEq, Eq)]
@@ -23,52 +13,14 @@ pub struct LogSummary {
     pub point: Option<CkptPoint>,
 }
 
-impl RecordSink for LogSummary {
-    ghost holds = { λ summary log. IsSummaryOf summary log.records };
-
-    fn start(_alloc: Global, _pages: u32) -> Result<LogSummary, AllocError> {
-        Ok(LogSummary {
-            records: 0,
-            point: None,
-        })
-    }
-
-    fn take(&mut self, next: &[Record]) -> Result<(), AllocError> {
-        self.records = self.records.saturating_add(next.len());
-        self.point = points_after(self.point, next);
-        Ok(())
-    }
-}
-
-/// The last complete checkpoint behind these records.
-fn points_after(before: Option<CkptPoint>, next: &[Record]) -> Option<CkptPoint>
-    ensures { result ≡ points_after before next.now }
-{
-    let mut point = before;
-    for entry in next {
-        point = point_after(point, entry);
-    }
-    point
-}
-
-fn point_after(before: Option<CkptPoint>, entry: &Record) -> Option<CkptPoint>
-    ensures { result ≡ point_after before entry.now }
-{
-    match *entry {
-        Record::EndChkpt { lsn, begin, redo } => Some(CkptPoint {
-            begin,
-            end: lsn,
-            redo,
-        }),
-        Record::Begin { .. }
-        | Record::Update { .. }
-        | Record::Comp { .. }
-        | Record::Commit { .. }
-        | Record::Abort { .. }
-        | Record::End { .. }
-        | Record::BeginChkpt { .. }
-        | Record::ChkptPages { .. }
-        | Record::ChkptTxns { .. }
-        | Record::Extend { .. } => before,
+impl LogSummary {
+    /// What the analysis of a log comes to.
+    pub fn of(found: &Analysis) -> LogSummary
+        ensures { (log : Log) → IsAnalysisOf log found.now → IsSummaryOf result log.records }
+    {
+        LogSummary {
+            records: found.records,
+            point: found.complete.last().copied(),
+        }
     }
 }

@@ -6,11 +6,11 @@ use crate::copy_row::{CopyFlaw, CopyRow, Rows};
 use crate::fault::ViewFault;
 use crate::head::{Head, HeaderJson};
 use crate::lines::Form;
-use crate::log_summary::{CkptPoint, LogSummary};
+use crate::log_summary::LogSummary;
 use crate::show::put_head;
 use log_front::{Cut, FrontScan, scan_front};
 use log_records::{HEADER_BYTES, LogHeader, MAX_OPEN, RECORD_BYTES, log_header};
-use log_store::Scan;
+use log_store::CkptPoint;
 use page_core::{FaultName, LSN_STEP, Lsn, TxnNo};
 use std::alloc::{AllocError, Global};
 use txn_table::OpenTransactions;
@@ -48,20 +48,14 @@ pub fn facts_of(alloc: Global, bytes: &[u8]) -> Result<LogFacts, ViewFault> {
         return Err(ViewFault::BadHeader);
     };
     let mut input = bytes;
-    let FrontScan { scan, cut } = scan_front(alloc, &mut input)?;
-    let Scan {
-        sink: summary,
-        history,
-    } = scan;
-    // A volume has fewer than this may count.
-    let pages = u32::try_from(history.pages().len()).unwrap_or(u32::MAX);
-    let table = history.into_open();
+    let FrontScan { scan, cut } = scan_front::<&[u8], ()>(alloc, &mut input)?;
+    let found = scan.history.into_analysis();
     Ok(LogFacts {
         header,
-        pages,
-        summary,
-        open: table.open_count(),
-        pending: pending_in(&table),
+        pages: found.counts.last(),
+        summary: LogSummary::of(&found),
+        open: found.txns.open_count(),
+        pending: pending_in(&found.txns),
         cut,
     })
 }

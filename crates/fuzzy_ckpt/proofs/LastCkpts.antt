@@ -1,19 +1,24 @@
 -- The checkpoints of a log, record by record.
-use Rattle.std.proofs.Common.{◌≡◌, ℕ, suc, zero, ◌<◌, List, [], ◌∷◌, ◌++◌, length, take, refl, sym, ap, ◌∙◌}
+use Rattle.std.proofs.Common.{◌≡◌, ℕ, suc, zero, ◌<◌, ◌≤◌, List, [], ◌∷◌, ◌++◌, length, take, take-suc, refl, sym, ap, ◌∙◌}
 use Rattle.std.proofs.Common.{arith, inl, inr, subst, get_or, ◌-◌, ◌/◌}
 use Rattle.std.specs.Prelude.{Contains, Option, Some, None, IsSomeAnd}
 use Rattle.std.specs.Option.{option_map}
-use Rattle.std.proofs.lemmas.List.{get_or-take, length-take}
+use Rattle.std.proofs.lemmas.List.{append-nil, get_or-take, get_or_push, length-take, length_push, take_all}
+use Rattle.std.proofs.lemmas.Option.{slice_get-get_or}
 use Rattle.std.proofs.lemmas.List.Sums.{fold_push}
 use Rattle.std.proofs.lemmas.List.Elements.{Contains-append_cases, Contains-append_left, Contains-append_right}
 use Rattle.log_records.specs.declared.record.Record.{Record}
-use Rattle.log_records.specs.declared.record.Record.TheVariants.{EndChkpt}
+use Rattle.log_records.specs.declared.record.Record.TheVariants.{Begin, EndChkpt}
 use Rattle.log_records.specs.Log.{IsLog, Log, lsn_of, page_count_at, page_count_below}
 use Rattle.log_records.specs.Record.{own_lsn}
-use Rattle.log_rules.specs.Checkpoint.{Checkpoint, checkpoint_after, open_checkpoint}
+use Rattle.log_rules.specs.declared.ckpt_point.CkptPoint.{CkptPoint}
+use Rattle.log_rules.specs.Checkpoint.{Checkpoint, checkpoint_after, completed_by, completed_in, open_checkpoint}
+use Rattle.log_rules.specs.Transactions.{last_of}
+use Rattle.log_rules.proofs.Public.{filter_map_push}
+use Rattle.log_store.specs.Analysis.{begun_of}
 use Rattle.log_rules.specs.Linked.{MayEnd}
 use Rattle.fuzzy_ckpt.specs.declared.point.Point.{Point}
-use Rattle.fuzzy_ckpt.specs.Ckpt.{CkptView, Phase}
+use Rattle.fuzzy_ckpt.specs.Ckpt.{CkptView, Phase, gathered}
 use Rattle.fuzzy_ckpt.specs.LogCheckpoints.{EndBy, IsLastPoint, gathered_of}
 
 only_one : (r x : Record) → Contains (r ∷ []) x → r ≡ x
@@ -88,3 +93,56 @@ end_by_next log i r valid lt at = λ e b d (k, low, is).
 pub next_open : (rs : List Record) (r : Record)
     → checkpoint_after (open_checkpoint rs) r ≡ open_checkpoint (rs ++ r ∷ [])
 next_open rs r = sym (fold_push checkpoint_after None rs r)
+
+-- ---- the complete checkpoints of a log
+
+-- one of them, with the page count at its begin
+abbrev pub point_at : Log → CkptPoint → Point
+point_at log c = record { begin = c.begin; end = c.end; redo = c.redo; pages = page_count_below log c.begin }
+
+last_pushed : (cs : List CkptPoint) (c : CkptPoint) → last_of (cs ++ c ∷ []) ≡ Some c
+last_pushed cs c =
+    let i = length (cs ++ c ∷ []) - 1 in
+    let long = length_push cs c in
+    let within : i < length (cs ++ c ∷ []) = omega (arith, long) in
+    let last : length cs ≡ i = omega (arith, long) in
+    slice_get-get_or (cs ++ c ∷ []) i c within ∙ ap Some (get_or_push cs c c i last)
+
+-- the last one of the records so far
+abbrev HasLast : Log → List Record → Type 0
+HasLast log rs = IsLastPoint log rs (option_map (point_at log) (last_of (completed_in rs)))
+
+last_more : (log : Log) (rs : List Record) (r : Record) → EndBy rs (own_lsn r) → HasLast log rs
+    → HasLast log (rs ++ r ∷ [])
+last_more log rs (EndChkpt lsn begin redo) before last =
+    let c : CkptPoint = record { begin = begin; end = lsn; redo = redo } in
+    let is : last_of (completed_in (rs ++ EndChkpt lsn begin redo ∷ [])) ≡ Some c =
+    ap (λ (cs : List CkptPoint). last_of cs) (filter_map_push completed_by rs (EndChkpt lsn begin redo))
+    ∙ last_pushed (completed_in rs) c in
+    subst (λ o. IsLastPoint log (rs ++ EndChkpt lsn begin redo ∷ []) (option_map (point_at log) o)) (sym is)
+    (last_end log rs lsn begin redo (page_count_below log begin) before refl)
+last_more log rs r before last =
+    let same : completed_in (rs ++ r ∷ []) ≡ completed_in rs =
+    filter_map_push completed_by rs r ∙ append-nil (completed_in rs) in
+    subst (λ (cs : List CkptPoint). IsLastPoint log (rs ++ r ∷ []) (option_map (point_at log) (last_of cs))) (sym same)
+    (last_other log rs r (option_map (point_at log) (last_of (completed_in rs))) (λ e b d is. absurd (cc)) last)
+
+pub last_completed : (log : Log) → IsLog log → HasLast log log.records
+last_completed log valid =
+    subst (HasLast log) (take_all (length log.records) log.records (omega arith)) (up_to (length log.records) (omega arith))
+  where
+    up_to : (n : ℕ) → n ≤ length log.records → HasLast log (take n log.records)
+    up_to zero le = λ e b d has. absurd (omega (arith, has.1))
+    up_to (suc n) le =
+        let lt : n < length log.records = omega arith in
+        let r = get_or log.records n (Begin 0 0) in
+        subst (HasLast log) (sym (take-suc log.records n r lt))
+        (last_more log (take n log.records) r (end_by_next log n r valid lt refl) (up_to n (omega arith)))
+
+-- the open one, with the page count at its begin
+pub begun_at : (log : Log) (o : Option Checkpoint)
+    → option_map (λ b. let v : CkptView Phase = record
+    { begin = b.begin; pages = page_count_below log b.begin; redo = b.redo; phase = gathered } in v) (option_map begun_of o)
+    ≡ option_map (gathered_of log) o
+begun_at log None = refl
+begun_at log (Some c) = refl

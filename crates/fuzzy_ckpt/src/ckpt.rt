@@ -273,6 +273,20 @@ impl Ckpt<Txns> {
 }
 
 impl Ckpt<Gathered> {
+    /// One that a log has as far as this: its begin, the page count of the volume there, and its redo
+    /// point so far.
+    pub(crate) fn found(begin: Lsn, pages: u32, redo: Lsn) -> Ckpt<Gathered>
+        ensures { gathered_ckpt result
+            ≡ record { begin = begin; pages = pages; redo = redo; phase = gathered } }
+    {
+        Ckpt {
+            begin,
+            pages,
+            redo,
+            phase: Gathered,
+        }
+    }
+
     /// One that begins here, in a volume of so many pages, and has nothing yet.
     pub(crate) fn begun(begin: Lsn, pages: u32) -> Ckpt<Gathered>
         ensures { gathered_ckpt result

@@ -3,10 +3,12 @@
 ghost use Rattle.std.specs.Prelude.{ℕ, ◌≡◌, ◌++◌, [], ◌∷◌, List, Option};
 ghost use Rattle.std.specs.Option.{option_map};
 ghost use Rattle.log_records.specs.declared.record.Record.{Record};
-ghost use Rattle.log_records.specs.Log.{Log, page_count_below};
+ghost use Rattle.log_records.specs.Log.{IsLog, Log, counts_of, page_count_below};
 ghost use Rattle.log_records.specs.Record.{own_lsn};
-ghost use Rattle.log_rules.specs.Checkpoint.{Checkpoint, checkpoint_after, open_checkpoint};
+ghost use Rattle.log_rules.specs.Checkpoint.{Checkpoint, checkpoint_after, completed_in};
+ghost use Rattle.log_rules.specs.Checkpoint.{open_checkpoint};
 ghost use Rattle.log_rules.specs.Linked.{IsLinked, MayFollow};
+ghost use Rattle.log_store.specs.Analysis.{IsAnalysisOf, begun_of};
 ghost use Rattle.fuzzy_ckpt.specs.Ckpt.{gathered_ckpt};
 ghost use Rattle.fuzzy_ckpt.specs.LogCheckpoints.{EndBy, IsLastPoint, gathered_of};
 
@@ -14,7 +16,8 @@ use crate::ckpt::Ckpt;
 use crate::phase::Gathered;
 use crate::point::Point;
 use log_records::Record;
-use log_store::LogImage;
+use log_store::{Analysis, CkptPoint, LogImage, OpenCkpt};
+use page_core::PageCounts;
 
 /// What a log says of its checkpoints at its end, for an engine that goes on from there.
 #[derive(Drop)]
@@ -24,6 +27,47 @@ pub struct LogCheckpoints {
     /// The open one, as one whose gather has ended. It may be ended where each stored page has all
     /// of its changes, and no transaction is open: then there is nothing left to gather.
     pub open: Option<Ckpt<Gathered>>,
+}
+
+impl LogCheckpoints {
+    /// Those of a log that was read, as its analysis has them. No record is looked at again.
+    pub fn of(found: &Analysis) -> LogCheckpoints
+        ensures last { (log : Log) → IsAnalysisOf log found.now → IsLog log
+            → IsLastPoint log log.records result.last }
+        ensures open { (log : Log) → IsAnalysisOf log found.now → IsLog log
+            → option_map gathered_ckpt result.«open»
+            ≡ option_map (gathered_of log) (open_checkpoint log.records) }
+    {
+        LogCheckpoints {
+            last: last_of(&found.complete, &found.counts),
+            open: begun_of(found.begun, &found.counts),
+        }
+    }
+}
+
+/// The last of these complete checkpoints, with the page count at its begin.
+fn last_of(complete: &[CkptPoint], counts: &PageCounts) -> Option<Point>
+    ensures { (log : Log) → complete.now ≡ completed_in log.records → counts.now ≡ counts_of log
+        → IsLog log → IsLastPoint log log.records result }
+{
+    let CkptPoint { begin, end, redo } = *complete.last()?;
+    let pages = counts.below(begin);
+    Some(Point {
+        begin,
+        end,
+        redo,
+        pages,
+    })
+}
+
+/// An open checkpoint, as one whose gather has ended.
+fn begun_of(begun: Option<OpenCkpt>, counts: &PageCounts) -> Option<Ckpt<Gathered>>
+    ensures { (log : Log) → begun ≡ option_map begun_of (open_checkpoint log.records)
+        → counts.now ≡ counts_of log → IsLog log → option_map gathered_ckpt result
+        ≡ option_map (gathered_of log) (open_checkpoint log.records) }
+{
+    let OpenCkpt { begin, redo } = begun?;
+    Some(Ckpt::found(begin, counts.below(begin), redo))
 }
 
 /// The last complete checkpoint of a linked log, and the open one. It reads each record once, and

@@ -8,7 +8,7 @@ ghost use Rattle.log_front.specs.declared.fault.FrontFault.TheVariants.{BadHeade
 use crate::cut::Cut;
 use crate::fault::FrontFault;
 use crate::scan::{FrontScan, scan_front};
-use log_store::LogImage;
+use log_store::{Analysis, LogImage};
 use page_core::Page;
 use std::alloc::Global;
 use std::io::Read;
@@ -87,11 +87,11 @@ pub fn read_front<R: Read>(alloc: Global, reader: &mut R) -> Result<Front, Front
     ensures none { result ≡ Err BadHeader → IfSome (R.remaining reader.old) HasNoFront }
 {
     let FrontScan { scan, cut } = scan_front::<R, LogImage>(alloc, reader)?;
-    let (pages, open) = scan.history.into_parts();
+    let Analysis { pages, txns, .. } = scan.history.into_analysis();
     Ok(Front {
         log: scan.sink,
         cut,
         pages,
-        losers: open.into_losers(),
+        losers: txns.into_losers(),
     })
 }

@@ -3,8 +3,8 @@ use Rattle.std.proofs.Common.{◌≡◌, ◌↔◌, ℕ, suc, ◌-◌, ◌/◌, 
 use Rattle.std.proofs.Common.{slice_get, refl, sym, ap, subst, ◌∙◌, arith, eqb, eqb-true, eq-eqb, All}
 use Rattle.std.specs.Prelude.{Option, Some, None, IsSomeAnd, IfSome, Contains, min}
 use Rattle.std.specs.List.{AllByRecursion}
-use Rattle.std.specs.Option.{option_map, option_map_or}
-use Rattle.std.proofs.lemmas.List.{get_or-map, length-append, length-map, map_push}
+use Rattle.std.specs.Option.{option_map, option_map_or, option_to_list}
+use Rattle.std.proofs.lemmas.List.{append-nil, get_or-map, length-append, length-map, map_push}
 use Rattle.std.proofs.lemmas.List.Sums.{fold-append}
 use Rattle.std.proofs.lemmas.Option.{get_or_from_slice_get, slice_get-get_or, slice_get_within}
 use Rattle.page_core.specs.declared.numbers.TheConstants.{LSN_STEP}
@@ -22,13 +22,15 @@ use Rattle.log_records.specs.Log.{IsLog, Log, lsn_of}
 use Rattle.log_records.specs.Record.{IsDirtyPage, IsPageChange, IsRecord, change_of, own_lsn}
 use Rattle.log_records.proofs.Public.{valid_change}
 use Rattle.log_records.proofs.Public.{at_each, of_each}
-use Rattle.std.proofs.lemmas.List.Elements.{All-cons, All-contains_itself, All-head, All-map, All-nil, All-tail}
+use Rattle.std.proofs.lemmas.List.Elements.{All-contains_itself}
 use Rattle.log_rules.specs.declared.no_page.TheConstants.{NO_PAGE}
 use Rattle.log_rules.specs.Checked.{GoesWithCheckpoint}
-use Rattle.log_rules.specs.Checkpoint.{Checkpoint, checkpoint_after, open_checkpoint, with_pages}
+use Rattle.log_rules.specs.declared.ckpt_point.CkptPoint.{CkptPoint}
+use Rattle.log_rules.specs.Checkpoint.{Checkpoint, checkpoint_after, completed_by, completed_in, open_checkpoint, with_pages}
 use Rattle.log_rules.specs.CheckpointTable.{AreChanges, Current, MayAddPages, MayAddTxn, MayClose, MayNoteCheckpoint}
-use Rattle.log_rules.specs.CheckpointTable.{NamesChange, add_pages, checkpoint_table_of, current_after, current_of, last_page_of}
+use Rattle.log_rules.specs.CheckpointTable.{NamesChange, add_pages, checkpoint_table_of, complete_after, current_after, current_of, last_page_of}
 use Rattle.log_rules.specs.CheckpointTable.{noted_checkpoint, page_of}
+use Rattle.log_rules.proofs.Filters.{filter_map_push}
 use Rattle.log_rules.specs.Linked.{ArePagesNow, HasOldTxns, MayEnd, MayRecordPages, MayRecordTxn}
 use Rattle.log_rules.specs.Table.{TxnEntry, entry_of, table_of}
 use Rattle.log_rules.specs.Transactions.{last_of, open_in}
@@ -75,10 +77,30 @@ current_step o (Commit lsn txn prev) = refl
 current_step o (Abort lsn txn prev) = refl
 current_step o (End lsn txn prev) = refl
 
+complete_step : (cs : List CkptPoint) (r : Record) → cs ++ option_to_list (completed_by r) ≡ complete_after cs r
+complete_step cs (EndChkpt lsn begin redo) = refl
+complete_step cs (Begin lsn txn) = append-nil cs
+complete_step cs (Update lsn txn prev page slot change) = append-nil cs
+complete_step cs (Comp lsn txn prev undo_next page slot change) = append-nil cs
+complete_step cs (Commit lsn txn prev) = append-nil cs
+complete_step cs (Abort lsn txn prev) = append-nil cs
+complete_step cs (End lsn txn prev) = append-nil cs
+complete_step cs (BeginChkpt lsn) = append-nil cs
+complete_step cs (ChkptPages lsn begin pages) = append-nil cs
+complete_step cs (ChkptTxns lsn begin txn state last undo) = append-nil cs
+complete_step cs (Extend lsn pages) = append-nil cs
+
 pub checkpoint_table_of_push : (rs : List Record) (r : Record)
     → checkpoint_table_of (rs ++ r ∷ []) ≡ noted_checkpoint (checkpoint_table_of rs) r
-checkpoint_table_of_push rs r = λ i. record { changed = map_push page_of rs r i; current = current i }
+checkpoint_table_of_push rs r = λ i. record {
+  changed = map_push page_of rs r i;
+  current = current i;
+  complete = complete i;
+}
   where
+    complete : completed_in (rs ++ r ∷ []) ≡ complete_after (completed_in rs) r
+    complete = filter_map_push completed_by rs r ∙ complete_step (completed_in rs) r
+
     current : option_map current_of (open_checkpoint (rs ++ r ∷ []))
         ≡ current_after (option_map current_of (open_checkpoint rs)) r
     current = ap (option_map current_of) (fold-append checkpoint_after None rs (r ∷ []))

@@ -6,7 +6,7 @@ use Rattle.std.proofs.lemmas.List.{get_or_at, length-append, take-append-drop}
 use Rattle.std.specs.List.{fold}
 use Rattle.log_records.specs.declared.dirty_page.DirtyPage.{DirtyPage}
 use Rattle.log_records.specs.declared.record.Record.{Record}
-use Rattle.log_records.specs.declared.record.Record.TheVariants.{EndChkpt, Extend}
+use Rattle.log_records.specs.declared.record.Record.TheVariants.{EndChkpt}
 use Rattle.log_rules.specs.Checkpoint.{Checkpoint, IsCompleteCheckpoint, open_checkpoint}
 use Rattle.log_rules.specs.Linked.{HasOldTxns, IsLinked, MayEnd, MayFollow}
 

@@ -1,19 +1,22 @@
 -- What the records so far make says whether the next one may follow.
 use Rattle.std.proofs.Common.{◌≡◌, ℕ, ◌<◌, ◌≤◌, ◌∷◌, ◌++◌, [], List, get_or, map, sym, ap, subst, subst₂, ◌∙◌, ◌↔◌, arith}
 use Rattle.std.specs.Prelude.{slice_index}
-use Rattle.std.proofs.lemmas.List.{map-id}
+use Rattle.std.proofs.lemmas.List.{append-nil, map-id}
 use Rattle.std.proofs.lemmas.List.FromFn.{get_or-map-range_with_len, length-map-range_with_len}
 use Rattle.page_core.specs.declared.page.Page.{Page}
 use Rattle.page_core.specs.Change.{Replaces}
 use Rattle.page_core.specs.Page.{formatted}
+use Rattle.page_core.specs.PageCounts.{PageCounts}
+use Rattle.page_core.specs.declared.page_counts.GivenCount.{GivenCount}
 use Rattle.log_records.specs.declared.record.Record.{Record}
 use Rattle.log_records.specs.declared.record.Record.TheVariants.{Begin, Update, Comp, Commit, Abort, End, BeginChkpt}
 use Rattle.log_records.specs.declared.record.Record.TheVariants.{ChkptPages, ChkptTxns, EndChkpt, Extend}
 use Rattle.log_rules.specs.Checked.{GoesWithCheckpoint, NamesNumber}
-use Rattle.log_rules.specs.History.{IsMadeOf, Made, MayComeNext, NamesNumberOn, followed, number_on, pages_after}
+use Rattle.log_rules.specs.History.{IsMadeOf, Made, MayComeNext, NamesNumberOn, counts_after, followed, number_on}
+use Rattle.log_rules.specs.History.{pages_after}
 use Rattle.log_records.specs.Image.{image, redo_all, with_record}
 use Rattle.log_rules.specs.Linked.{IsLinked, MayFollow, number_in}
-use Rattle.log_records.specs.Log.{IsLog, IsWithin, Log, page_count, with_next}
+use Rattle.log_records.specs.Log.{IsLog, IsWithin, Log, counts_of, page_count, with_next}
 use Rattle.log_rules.specs.Table.{MayNote, Table, noted}
 use Rattle.log_rules.proofs.Checks.{goes_with_checkpoint, may_note, names_number}
 use Rattle.log_rules.proofs.CheckpointTables.{checkpoint_table_of_push, goes_as_noted}
@@ -23,13 +26,14 @@ use Rattle.log_rules.proofs.Checks.{may_follow as table_allows}
 use Rattle.log_records.proofs.Public.{redo_all-append}
 use Rattle.log_records.proofs.Public.{count_after-none, page_count-push}
 use Rattle.log_records.proofs.Public.{redo_all-grown}
-use Rattle.log_records.specs.PageCount.{GivesMore, count_after, given_count}
+use Rattle.log_records.specs.PageCount.{GivesMore, count_after, given_by, given_count}
 use Rattle.page_core.specs.Volume.{grown_to}
-use Rattle.std.specs.Option.{option_map_or}
+use Rattle.std.specs.Option.{option_map_or, option_to_list}
 use Rattle.std.specs.Prelude.{IfSome}
 use Rattle.std.proofs.Common.{Option, Some, None, length, max, refl}
 use Rattle.std.proofs.lemmas.Option.{none-some}
 use Rattle.std.proofs.Math.Nat.{max-eq_right}
+use Rattle.log_rules.proofs.Filters.{filter_map_push}
 use Rattle.log_rules.proofs.Steps.{table_of_push}
 
 -- the number in a slot of a log's volume
@@ -154,6 +158,20 @@ pages_next log r valid more = by_given (given_count r) refl
         ∙ redo_all-append log.records (r ∷ []) given
         ∙ ap (redo_all (log.records ++ r ∷ [])) (sym (page_count-push log r ∙ after))
 
+-- ---- the page counts after one more record
+
+counts_pushed : (counts : PageCounts) (o : Option GivenCount)
+    → option_map_or (λ given. let it : PageCounts = record counts { given = counts.given ++ given ∷ [] } in it) o counts
+    ≡ (record counts { given = counts.given ++ option_to_list o })
+counts_pushed counts None = λ i. record counts { given = sym (append-nil counts.given) i }
+counts_pushed counts (Some given) = refl
+
+counts_next : (log : Log) (r : Record) → counts_after (counts_of log) r ≡ counts_of (with_next log (r ∷ []))
+counts_next log r =
+    counts_pushed (counts_of log) (given_by r)
+    ∙ ap (λ given. let it : PageCounts = record { first = log.pages; given = given } in it)
+    (sym (filter_map_push given_by log.records r))
+
 pub made_next : (log : Log) (made new : Made) (r : Record) → IsLinked log.records → IsMadeOf log made
     → IsLog log → GivesMore (page_count log) r
     → MayFollow log.records r → new ≡ followed made r → IsMadeOf (with_next log (r ∷ [])) new
@@ -162,6 +180,7 @@ made_next log made new r linked of valid more may e = record {
       ∙ sym (table_of_push log.records r linked may);
   checkpoints = ap (λ (m : Made). m.checkpoints) e ∙ ap (λ (t : CheckpointTable). noted_checkpoint t r) of.checkpoints
       ∙ sym (checkpoint_table_of_push log.records r);
+  counts = ap (λ (m : Made). m.counts) e ∙ ap (λ counts. counts_after counts r) of.counts ∙ counts_next log r;
   pages = ap (λ (m : Made). m.pages) e ∙ ap (λ pages. pages_after pages r) of.pages ∙ pages_next log r valid more;
 }
 

@@ -4,7 +4,7 @@ use Rattle.std.proofs.Common.{List, [], ◌∷◌, ◌++◌, length, sym, refl, 
 use Rattle.std.proofs.Common.{sum, sum_by, zero-add, le_of_eq}
 use Rattle.std.specs.Prelude.{None, IsSomeAnd}
 use Rattle.std.specs.List.{filter, list_any, range_with_len}
-use Rattle.std.proofs.lemmas.Bool.{and_left, cases_eq, or_from, or_parts}
+use Rattle.std.proofs.lemmas.Bool.{and_left, cases_eq}
 use Rattle.std.proofs.lemmas.List.{length_push, length-take-le}
 use Rattle.std.proofs.lemmas.List.Elements.{filter_agree}
 use Rattle.std.proofs.lemmas.List.Filters.{sum_by-filter_both}

@@ -7,7 +7,7 @@ use Rattle.page_core.specs.Page.{formatted}
 use Rattle.log_rules.specs.declared.pending_change.PendingChange.{PendingChange}
 use Rattle.log_records.specs.declared.record.Record.{Record}
 use Rattle.log_records.specs.declared.record.Record.TheVariants.{Begin, Update, Comp, Commit, Abort, End, BeginChkpt}
-use Rattle.log_records.specs.declared.record.Record.TheVariants.{ChkptPages, ChkptTxns, EndChkpt, Extend}
+use Rattle.log_records.specs.declared.record.Record.TheVariants.{ChkptPages, ChkptTxns, EndChkpt}
 use Rattle.log_records.specs.declared.dirty_page.DirtyPages.{DirtyPages}
 use Rattle.log_records.specs.declared.dirty_page.DirtyPages.TheVariants.{One}
 use Rattle.log_records.specs.declared.txn_phase.TxnPhase.{TxnPhase}

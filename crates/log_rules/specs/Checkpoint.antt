@@ -1,6 +1,6 @@
 -- The checkpoints of a log, read from its beginning.
 use Rattle.std.specs.Prelude.{ℕ, ◌≡◌, ◌++◌, List, [], ◌∷◌, Option, Some, None, min, IsSomeAnd}
-use Rattle.std.specs.List.{fold}
+use Rattle.std.specs.List.{filter_map, fold}
 use Rattle.std.specs.Option.{option_map}
 use Rattle.log_records.specs.declared.dirty_page.DirtyPage.{DirtyPage}
 use Rattle.log_records.specs.declared.record.Record.{Record}
@@ -8,6 +8,7 @@ use Rattle.log_records.specs.declared.record.Record.TheVariants.{Begin, Update, 
 use Rattle.log_records.specs.declared.record.Record.TheVariants.{End, BeginChkpt, ChkptPages}
 use Rattle.log_records.specs.declared.record.Record.TheVariants.{ChkptTxns, EndChkpt, Extend}
 use Rattle.log_records.specs.DirtyPage.{entries_of}
+use Rattle.log_rules.specs.declared.ckpt_point.CkptPoint.{CkptPoint}
 
 -- a checkpoint that is open: the LSN of its BeginChkpt, and the dirty pages and transactions that
 -- it has so far
@@ -51,3 +52,21 @@ pub record IsCompleteCheckpoint (rs : List Record) (begin end : ℕ) : Type 0 wh
   pub redo : ℕ
   pub ended : rs ≡ before ++ EndChkpt end begin redo ∷ behind
   pub begun : IsSomeAnd (open_checkpoint before) (λ c. c.begin ≡ begin)
+
+-- the checkpoint that a record completes
+abbrev pub completed_by : Record → Option CkptPoint
+completed_by (EndChkpt lsn begin redo) = Some (record { begin = begin; end = lsn; redo = redo })
+completed_by (Begin lsn txn) = None
+completed_by (Update lsn txn prev page slot change) = None
+completed_by (Comp lsn txn prev undo_next page slot change) = None
+completed_by (Commit lsn txn prev) = None
+completed_by (Abort lsn txn prev) = None
+completed_by (End lsn txn prev) = None
+completed_by (BeginChkpt lsn) = None
+completed_by (ChkptPages lsn begin pages) = None
+completed_by (ChkptTxns lsn begin txn state last undo_next) = None
+completed_by (Extend lsn pages) = None
+
+-- the complete checkpoints of a log, in their order
+abbrev pub completed_in : List Record → List CkptPoint
+completed_in rs = filter_map completed_by rs

@@ -14,7 +14,8 @@ use Rattle.log_records.specs.declared.record.Record.TheVariants.{ChkptTxns, EndC
 use Rattle.log_records.specs.DirtyPage.{entries_of}
 use Rattle.log_records.specs.Record.{change_of}
 use Rattle.log_rules.specs.declared.no_page.TheConstants.{NO_PAGE}
-use Rattle.log_rules.specs.Checkpoint.{Checkpoint, open_checkpoint, redo_point}
+use Rattle.log_rules.specs.declared.ckpt_point.CkptPoint.{CkptPoint}
+use Rattle.log_rules.specs.Checkpoint.{Checkpoint, completed_in, open_checkpoint, redo_point}
 use Rattle.log_rules.specs.Table.{Table}
 use Rattle.log_rules.specs.Transactions.{last_of}
 
@@ -26,10 +27,12 @@ pub record Current : Type 0 where
   pub redo : ℕ
   pub txns : List ℕ
 
--- the page that each record of the log changes, or NO_PAGE; and the open checkpoint, if one is
+-- the page that each record of the log changes, or NO_PAGE; the open checkpoint, if one is; and the
+-- complete ones
 pub record CheckpointTable : Type 0 where
   pub changed : List ℕ
   pub current : Option Current
+  pub complete : List CkptPoint
 
 -- ---- the table of a log
 
@@ -48,6 +51,7 @@ abbrev pub checkpoint_table_of : List Record → CheckpointTable
 checkpoint_table_of rs = record {
   changed = map page_of rs;
   current = option_map current_of (open_checkpoint rs);
+  complete = completed_in rs;
 }
 
 -- ---- which record may come next
@@ -127,8 +131,23 @@ current_after c (Abort lsn txn prev) = c
 current_after c (End lsn txn prev) = c
 current_after c (Extend lsn pages) = c
 
+abbrev pub complete_after : List CkptPoint → Record → List CkptPoint
+complete_after cs (EndChkpt lsn begin redo) =
+    cs ++ record { begin = begin; end = lsn; redo = redo } ∷ []
+complete_after cs (Begin lsn txn) = cs
+complete_after cs (Update lsn txn prev page slot change) = cs
+complete_after cs (Comp lsn txn prev undo_next page slot change) = cs
+complete_after cs (Commit lsn txn prev) = cs
+complete_after cs (Abort lsn txn prev) = cs
+complete_after cs (End lsn txn prev) = cs
+complete_after cs (BeginChkpt lsn) = cs
+complete_after cs (ChkptPages lsn begin pages) = cs
+complete_after cs (ChkptTxns lsn begin txn state last undo) = cs
+complete_after cs (Extend lsn pages) = cs
+
 abbrev pub noted_checkpoint : CheckpointTable → Record → CheckpointTable
 noted_checkpoint t r = record {
   changed = t.changed ++ page_of r ∷ [];
   current = current_after t.current r;
+  complete = complete_after t.complete r;
 }

@@ -1,18 +1,19 @@
--- What the records of a log make: the tables of its open transactions and of its checkpoints, and
--- its pages.
-use Rattle.std.specs.Prelude.{ℕ, ◌≡◌, List, length, map, slice_index, slice_index_or}
+-- What the records of a log make: the tables of its open transactions and of its checkpoints, its
+-- page counts, and its pages.
+use Rattle.std.specs.Prelude.{ℕ, ◌≡◌, ◌++◌, [], ◌∷◌, List, length, map, slice_index, slice_index_or}
 use Rattle.page_core.specs.declared.page.Page.{Page}
 use Rattle.page_core.specs.Change.{Replaces}
 use Rattle.page_core.specs.Page.{formatted}
+use Rattle.page_core.specs.PageCounts.{PageCounts}
 use Rattle.page_core.specs.Volume.{grown_to}
-use Rattle.log_records.specs.PageCount.{GivesMore, given_count}
+use Rattle.log_records.specs.PageCount.{GivesMore, given_by, given_count}
 use Rattle.std.specs.Option.{option_map_or}
 use Rattle.log_records.specs.declared.record.Record.{Record}
 use Rattle.log_records.specs.declared.record.Record.TheVariants.{Begin, Update, Comp, Commit, Abort}
 use Rattle.log_records.specs.declared.record.Record.TheVariants.{End, BeginChkpt, ChkptPages}
 use Rattle.log_records.specs.declared.record.Record.TheVariants.{ChkptTxns, EndChkpt, Extend}
 use Rattle.log_records.specs.Image.{redo_all, with_record}
-use Rattle.log_records.specs.Log.{Log, page_count}
+use Rattle.log_records.specs.Log.{Log, counts_of, page_count}
 use Rattle.log_rules.specs.CheckpointTable.{CheckpointTable, MayNoteCheckpoint}
 use Rattle.log_rules.specs.CheckpointTable.{checkpoint_table_of, noted_checkpoint}
 use Rattle.log_rules.specs.Table.{MayNote, Table, noted, table_of}
@@ -20,12 +21,14 @@ use Rattle.log_rules.specs.Table.{MayNote, Table, noted, table_of}
 pub record Made : Type 0 where
   pub table : Table
   pub checkpoints : CheckpointTable
+  pub counts : PageCounts
   pub pages : List Page
 
 -- it is what this log makes
 pub record IsMadeOf (log : Log) (made : Made) : Type 0 where
   pub table : made.table ≡ table_of log.records
   pub checkpoints : made.checkpoints ≡ checkpoint_table_of log.records
+  pub counts : made.counts ≡ counts_of log
   pub pages : made.pages ≡ redo_all log.records (page_count log)
 
 -- the number in a slot of these pages
@@ -54,6 +57,12 @@ pub record MayComeNext (made : Made) (r : Record) : Type 0 where
   pub replaces : NamesNumberOn made.pages r
   pub more : GivesMore (length made.pages) r
 
+-- the page counts after one more record
+abbrev pub counts_after : PageCounts → Record → PageCounts
+counts_after counts r =
+    option_map_or (λ given. record counts { given = counts.given ++ given ∷ [] }) (given_by r)
+    counts
+
 -- the pages after one more record: its change is made on its page, and an Extend adds formatted
 -- pages
 abbrev pub pages_after : List Page → Record → List Page
@@ -66,5 +75,6 @@ abbrev pub followed : Made → Record → Made
 followed made r = record {
   table = noted made.table r;
   checkpoints = noted_checkpoint made.checkpoints r;
+  counts = counts_after made.counts r;
   pages = pages_after made.pages r;
 }

@@ -2,6 +2,7 @@
 #![tactic(auto)]
 
 mod checkpoint_laws;
+mod ckpt_point;
 mod laws;
 mod no_page;
 mod pending_change;
@@ -10,6 +11,7 @@ pub use checkpoint_laws::{
     complete_checkpoints_are_known_by_their_ends, complete_checkpoints_outlast_new_records,
     redo_points_are_not_past_their_begins,
 };
+pub use ckpt_point::CkptPoint;
 pub use laws::{
     checkpoint_tables_are_kept_record_by_record, checkpoint_tables_say_what_goes,
     linked_logs_grow_by_what_may_follow, numbers_are_committed_under_pending_changes,

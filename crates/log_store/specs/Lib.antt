@@ -1,3 +1,4 @@
+pub mod Analysis
 pub mod Device
 pub mod Fault
 pub mod FaultyDevice

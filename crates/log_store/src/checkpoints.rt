@@ -1,14 +1,16 @@
-//! The checkpoints of a log that is being read: decides whether a checkpoint's record may follow.
+//! The checkpoints of a log that is being read: decides whether a checkpoint's record may follow, and
+//! keeps the complete ones.
 
-ghost use Rattle.std.specs.Prelude.{◌≡◌, ◌↔◌, ◌<◌, ◌/◌, ◌-◌, [], min, slice_get, Some, None};
-ghost use Rattle.std.specs.Prelude.{IfSome, IsSomeAnd, IsTrue, OnErr, OnOk};
+ghost use Rattle.std.specs.Prelude.{◌≡◌, ◌↔◌, ◌<◌, ◌/◌, ◌-◌, ◌++◌, ◌∷◌, [], min, slice_get};
+ghost use Rattle.std.specs.Prelude.{Some, None};
+ghost use Rattle.std.specs.Prelude.{IfSome, IsSomeAnd, IsTrue, OnErr, OnOk, length};
 ghost use Rattle.std.specs.List.{AllByRecursion, fold};
 ghost use Rattle.log_rules.specs.CheckpointTable.{AreChanges, NamesChange, last_page_of};
 ghost use Rattle.log_rules.specs.CheckpointTable.{page_of};
 ghost use Rattle.log_records.specs.DirtyPage.{entries_of};
 
 use log_records::{DirtyPage, DirtyPages, Record};
-use log_rules::NO_PAGE;
+use log_rules::{CkptPoint, NO_PAGE};
 use page_core::{LSN_STEP, Lsn, TxnNo};
 use std::alloc::{AllocError, Global};
 use std::marker::Model;
@@ -23,13 +25,23 @@ struct Open {
     redo: u64,
 }
 
-/// The page that each record of a log changes, and the open checkpoint. It takes the records of the
-/// log one by one, and needs 4 bytes of memory for each, and for each transaction of a checkpoint.
+/// An open checkpoint, as far as its records have come: the LSN of its BeginChkpt, and its redo
+/// point so far.
+#[derive(Clone, Copy, Debug, PartialEq, Eq)]
+pub struct OpenCkpt {
+    pub begin: Lsn,
+    pub redo: Lsn,
+}
+
+/// The page that each record of a log changes, the open checkpoint, and the complete ones. It takes
+/// the records of the log one by one, and needs 4 bytes of memory for each, and for each transaction
+/// of a checkpoint.
 #[derive(Drop)]
 pub struct Checkpoints {
     changed: Vec<u32>,
     current: Option<Open>,
     txns: Vec<u32>,
+    complete: Vec<CkptPoint>,
 }
 
 impl Model for Checkpoints {
@@ -47,6 +59,7 @@ impl Model for Checkpoints {
         redo = c.redo;
         txns = t.txns.items;
       }) t.current;
+      complete = t.complete.items;
     } };
 }
 
@@ -60,13 +73,42 @@ impl Checkpoints {
 
     /// Before the first record: no checkpoint is open.
     pub fn new(alloc: Global) -> Checkpoints
-        ensures { result ≡ record { changed = []; current = None } }
+        ensures { result ≡ record { changed = []; current = None; complete = [] } }
     {
         Checkpoints {
             changed: Vec::new(alloc),
             current: None,
             txns: Vec::new(alloc),
+            complete: Vec::new(alloc),
         }
+    }
+
+    /// How many records the log has.
+    pub fn records(&self) -> usize
+        ensures { result ≡ length self.now.changed }
+    {
+        self.changed.len()
+    }
+
+    /// The open checkpoint, if one is.
+    pub fn begun(&self) -> Option<OpenCkpt>
+        ensures { result ≡ option_map (λ c. record { begin = c.begin; redo = c.redo })
+            self.now.current }
+    {
+        match self.current {
+            Some(Open { begin, redo, .. }) => Some(OpenCkpt {
+                begin: Lsn(begin),
+                redo: Lsn(redo),
+            }),
+            None => None,
+        }
+    }
+
+    /// The complete checkpoints, in their order. The rest is let go.
+    pub fn into_complete(self) -> Vec<CkptPoint>
+        ensures { result.items ≡ self.complete }
+    {
+        self.complete
     }
 
     /// The record may come next, as far as the checkpoints say.
@@ -137,6 +179,19 @@ impl Checkpoints {
         }
     }
 
+    /// Keeps a complete checkpoint, behind which none is open.
+    fn end(&mut self, point: CkptPoint) -> Result<(), AllocError>
+        ensures ok { OnOk result (self.new ≡ record self.old {
+          current = None;
+          complete = self.old.complete ++ point ∷ [];
+        }) }
+        ensures err { OnErr result (self.new ≡ self.old) }
+    {
+        self.complete.push(point)?;
+        self.current = None;
+        Ok(())
+    }
+
     /// Takes the record as the next one. An `Err` comes where memory is refused, and changes
     /// nothing.
     #[inline(always)]
@@ -161,7 +216,14 @@ impl Checkpoints {
                     unreachable!();
                 }
             }
-            Record::EndChkpt { .. } => self.current = None,
+            Record::EndChkpt { lsn, begin, redo } => {
+                let end = lsn;
+                let ended = self.end(CkptPoint { begin, end, redo });
+                if ended.is_err() {
+                    self.take_back();
+                }
+                return ended;
+            }
             Record::Begin { .. }
             | Record::Update { .. }
             | Record::Comp { .. }
@@ -184,7 +246,7 @@ impl Checkpoints {
         Ok(())
     }
 
-    /// Takes back the last noted record, which is a transaction's.
+    /// Takes back the last noted record, which is a transaction's or an Extend.
     pub fn take_back(&mut self)
         ensures { self.new ≡ record self.old { changed = without_last self.old.changed } }
     {

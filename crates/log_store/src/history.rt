@@ -6,19 +6,23 @@ ghost use Rattle.log_records.specs.Log.{IsWithin};
 ghost use Rattle.log_records.specs.Record.{IsRecord};
 ghost use Rattle.log_rules.specs.History.{NamesNumberOn};
 
+use crate::analysis::Analysis;
 use crate::checkpoints::Checkpoints;
 use log_records::{Record, redo_on_its_page};
-use page_core::{Change, Page, PageNo, SlotNo, formatted_pages, grow_reserved};
+use page_core::{
+    Change, GivenCount, Page, PageCounts, PageNo, SlotNo, formatted_pages, grow_reserved,
+};
 use std::alloc::{AllocError, Global};
 use std::marker::Model;
 use txn_table::OpenTransactions;
 
-/// The state to which the records of a log lead: its open transactions, its checkpoints, and its
-/// pages with the changes of all records (ARIES, sections 3, 5.4 and 6.2).
+/// The state to which the records of a log lead: its open transactions, its checkpoints, its page
+/// counts, and its pages with the changes of all records (ARIES, sections 3, 5.4 and 6.2).
 #[derive(Drop)]
 pub struct History {
     txns: OpenTransactions,
     checkpoints: Checkpoints,
+    counts: PageCounts,
     pages: Vec<Page>,
 }
 
@@ -31,6 +35,7 @@ impl Model for History {
     ghost view = { λ history. record {
       table = history.txns.table;
       checkpoints = history.checkpoints;
+      counts = history.counts;
       pages = history.pages.items;
     } };
 
@@ -41,7 +46,8 @@ impl History {
     ghost use Rattle.std.specs.Prelude.{ℕ, ◌≡◌, [], length, IfOk, IsTrue, OnErr};
     ghost use Rattle.log_records.specs.declared.record.Record.TheVariants.{Extend};
     ghost use Rattle.log_rules.specs.History.{IsMadeOf, MayComeNext, followed};
-    ghost use Rattle.log_records.specs.Log.{IsWithin};
+    ghost use Rattle.log_records.specs.Log.{IsWithin, Log};
+    ghost use Rattle.log_store.specs.Analysis.{IsAnalysisOf};
     ghost use Rattle.log_records.specs.Record.{IsOfCheckpoint, IsOfTransaction, IsRecord};
 
     /// What the empty log of so many pages makes: no transaction, and formatted pages. An `Err`
@@ -52,6 +58,7 @@ impl History {
         Ok(History {
             txns: OpenTransactions::new(alloc),
             checkpoints: Checkpoints::new(alloc),
+            counts: PageCounts::new(alloc, pages),
             pages: formatted_pages(alloc, pages)?,
         })
     }
@@ -63,19 +70,24 @@ impl History {
         &self.pages
     }
 
-    /// The open transactions after all records so far. The rest is let go.
-    pub fn into_open(self) -> OpenTransactions
-        ensures { result.table ≡ self.table }
+    /// What the records so far answer, in parts.
+    pub fn into_analysis(self) -> Analysis
+        ensures { (log : Log) → IsMadeOf log self → IsAnalysisOf log result }
     {
-        self.txns
-    }
-
-    /// The pages, and the open transactions, after all records so far. The rest is let go.
-    pub fn into_parts(self) -> (Vec<Page>, OpenTransactions)
-        ensures pages { result.0.items ≡ self.pages }
-        ensures open { result.1.table ≡ self.table }
-    {
-        (self.pages, self.txns)
+        let History {
+            txns,
+            checkpoints,
+            counts,
+            pages,
+        } = self;
+        Analysis {
+            records: checkpoints.records(),
+            txns,
+            begun: checkpoints.begun(),
+            complete: checkpoints.into_complete(),
+            counts,
+            pages,
+        }
     }
 
     /// Prefetches what a change of a slot will look at. For a slot that is not there it does
@@ -131,6 +143,11 @@ impl History {
         }
         self.pages.reserve(pages as usize - present)?;
         self.checkpoints.note(next)?;
+        let lsn = next.lsn();
+        if let Err(refused) = self.counts.note(GivenCount { lsn, pages }) {
+            self.checkpoints.take_back();
+            return Err(refused);
+        }
         grow_reserved(&mut self.pages, pages);
         Ok(true)
     }

@@ -1,6 +1,7 @@
 //! Reads a whole log, appends to a log on a device, and spells the master record.
 #![tactic(auto)]
 
+mod analysis;
 mod checkpoints;
 mod device;
 mod fault;
@@ -19,7 +20,8 @@ mod scan;
 mod sink;
 mod stored_log;
 
-pub use checkpoints::Checkpoints;
+pub use analysis::Analysis;
+pub use checkpoints::{Checkpoints, OpenCkpt};
 pub use device::{DeviceFault, LogDevice};
 pub use fault::LogReadFault;
 pub use faulty_device::FaultyDevice;
@@ -28,6 +30,7 @@ pub use laws::{bytes_have_one_first_fault, masters_have_this_length, spelled_log
 pub use log::Log;
 pub use log_image::LogImage;
 pub use log_records::{Record, decode, encode};
+pub use log_rules::CkptPoint;
 pub use master::{MASTER_BYTES, Master, decode_master, encode_master, masters_are_spelled_apart};
 pub use mem_device::MemDevice;
 pub use read::read_log;

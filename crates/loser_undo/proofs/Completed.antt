@@ -5,10 +5,10 @@ use Rattle.std.specs.List.{Contains, list_any}
 use Rattle.std.proofs.lemmas.Bool.{and_parts}
 use Rattle.log_records.specs.declared.record.Record.{Record}
 use Rattle.log_records.specs.declared.record.Record.TheVariants.{EndChkpt}
-use Rattle.log_store.specs.declared.master.Master.{Master}
-use Rattle.loser_undo.specs.Kept.{completed_in}
+use Rattle.log_rules.specs.declared.ckpt_point.CkptPoint.{CkptPoint}
+use Rattle.log_rules.specs.Checkpoint.{completed_in}
 
-abbrev pub is_named : ℕ → ℕ → Master → Bool
+abbrev pub is_named : ℕ → ℕ → CkptPoint → Bool
 is_named begin end m = eqb m.begin begin && eqb m.end end
 
 -- one that is named so has a record that ends it

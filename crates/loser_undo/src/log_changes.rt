@@ -1,34 +1,35 @@
 //! A log of which only what a restore needs is kept.
 
-ghost use Rattle.std.specs.Prelude.{ℕ, ◌≡◌, ◌↔◌, ◌<◌, ◌++◌, ◌∷◌, [], IsTrue, OnOk};
+ghost use Rattle.std.specs.Prelude.{ℕ, ◌≡◌, ◌↔◌, ◌<◌, ◌≤◌, ◌++◌, IsTrue, OnOk};
 ghost use Rattle.std.specs.Option.{option_to_list};
 ghost use Rattle.log_records.specs.declared.limits.TheConstants.{MAX_RECORDS};
-ghost use Rattle.log_records.specs.PageCount.{given_by};
 ghost use Rattle.log_records.specs.Record.{IsRecord, own_lsn};
 ghost use Rattle.log_rules.specs.Checkpoint.{IsCompleteCheckpoint};
 ghost use Rattle.log_rules.specs.Linked.{IsLinked};
-ghost use Rattle.log_records.specs.Log.{IsLog, Log, counts_of, lsn_of, with_next};
-ghost use Rattle.loser_undo.specs.Kept.{completed_by, kept_of};
-ghost use Rattle.page_redo.specs.Placed.{placed_by};
+ghost use Rattle.log_records.specs.Log.{Log, counts_of, lsn_of};
+ghost use Rattle.loser_undo.specs.Kept.{kept_of};
+ghost use Rattle.page_redo.specs.Placed.{placed_by, placed_in};
 
 use log_records::Record;
-use log_store::{Master, RecordSink};
-use page_core::{GivenCount, LSN_STEP, Lsn, PageCounts};
+use log_store::{CkptPoint, Master, RecordSink};
+use page_core::{LSN_STEP, Lsn, PageCounts};
 use page_redo::PlacedChange;
 use std::alloc::{AllocError, Global};
 use std::marker::Model;
 
-/// What a restore keeps of a log: of each change 16 bytes, the page counts that were given, and the
+/// What a restore needs of a log: of each change 16 bytes, the page counts that were given, and the
 /// checkpoints that were completed.
 #[derive(Drop)]
 pub struct LogChanges {
     counts: PageCounts,
-    count: u32,
+    count: usize,
     changes: Vec<PlacedChange>,
-    checkpoints: Vec<Master>,
+    checkpoints: Vec<CkptPoint>,
 }
 
 impl Model for LogChanges {
+    ghost use Rattle.std.specs.Prelude.{◌≤◌};
+    ghost use Rattle.log_records.specs.declared.limits.TheConstants.{MAX_RECORDS};
     ghost use Rattle.loser_undo.specs.Kept.{Kept};
 
     ghost Value = { Kept };
@@ -39,9 +40,34 @@ impl Model for LogChanges {
       changes = it.changes.items;
       checkpoints = it.checkpoints.items;
     } };
+
+    ghost invariant = { λ it. it.count ≤ MAX_RECORDS };
 }
 
 impl LogChanges {
+    /// The changes of a log of so many records, and what its analysis says of it.
+    pub(crate) fn new(
+        changes: Changes,
+        count: usize,
+        counts: PageCounts,
+        checkpoints: Vec<CkptPoint>,
+    ) -> LogChanges
+        requires { count ≤ MAX_RECORDS }
+        ensures { result ≡ record {
+          counts = counts;
+          count = count;
+          changes = changes.list.items;
+          checkpoints = checkpoints.items;
+        } }
+    {
+        LogChanges {
+            counts,
+            count,
+            changes: changes.list,
+            checkpoints,
+        }
+    }
+
     /// The page counts of the volume, as the log goes on.
     pub fn counts(&self) -> &PageCounts
         ensures { (log : Log) → self.now ≡ kept_of log → result.now ≡ counts_of log }
@@ -53,7 +79,7 @@ impl LogChanges {
     pub fn count(&self) -> usize
         ensures { result ≡ self.now.count }
     {
-        self.count as usize
+        self.count
     }
 
     /// The LSN after the last record.
@@ -82,38 +108,26 @@ impl LogChanges {
         }
         false
     }
-
-    /// Keeps what is needed of the next record.
-    fn keep(&mut self, next: &Record) -> Result<(), AllocError>
-        requires { (log : Log)
-            × ((self.old ≡ kept_of log) × IsLog (with_next log (next.now ∷ []))) }
-        ensures { OnOk result ((log : Log) → self.old ≡ kept_of log
-            → IsLog (with_next log (next.now ∷ []))
-            → self.new ≡ kept_of (with_next log (next.now ∷ []))) }
-    {
-        keep_change(&mut self.changes, next)?;
-        keep_checkpoint(&mut self.checkpoints, next)?;
-        keep_count(&mut self.counts, next)?;
-        self.count += 1;
-        Ok(())
-    }
 }
 
-impl RecordSink for LogChanges {
-    ghost holds = { λ sink log. sink ≡ kept_of log };
+/// Keeps the changes of a log, as redo needs them.
+#[derive(Drop)]
+pub struct Changes {
+    list: Vec<PlacedChange>,
+}
 
-    fn start(alloc: Global, pages: u32) -> Result<LogChanges, AllocError> {
-        Ok(LogChanges {
-            counts: PageCounts::new(alloc, pages),
-            count: 0,
-            changes: Vec::new(alloc),
-            checkpoints: Vec::new(alloc),
+impl RecordSink for Changes {
+    ghost holds = { λ sink log. sink.list.items ≡ placed_in log.records };
+
+    fn start(alloc: Global, _pages: u32) -> Result<Changes, AllocError> {
+        Ok(Changes {
+            list: Vec::new(alloc),
         })
     }
 
     fn take(&mut self, next: &[Record]) -> Result<(), AllocError> {
         for record in next {
-            self.keep(record)?;
+            keep_change(&mut self.list, record)?;
         }
         Ok(())
     }
@@ -128,40 +142,6 @@ fn keep_change(changes: &mut Vec<PlacedChange>, next: &Record) -> Result<(), All
 {
     if let Some(change) = next.change() {
         changes.push(PlacedChange::new(next.lsn(), change))?;
-    }
-    Ok(())
-}
-
-/// Keeps the checkpoint that a record completes, if it does.
-fn keep_checkpoint(checkpoints: &mut Vec<Master>, next: &Record) -> Result<(), AllocError>
-    ensures { OnOk result (checkpoints.new.items
-        ≡ checkpoints.old.items ++ option_to_list (completed_by next.now)) }
-{
-    match *next {
-        Record::EndChkpt { lsn, begin, .. } => checkpoints.push(Master { begin, end: lsn })?,
-        Record::Begin { .. }
-        | Record::Update { .. }
-        | Record::Comp { .. }
-        | Record::Commit { .. }
-        | Record::Abort { .. }
-        | Record::End { .. }
-        | Record::BeginChkpt { .. }
-        | Record::ChkptPages { .. }
-        | Record::ChkptTxns { .. }
-        | Record::Extend { .. } => {}
-    }
-    Ok(())
-}
-
-/// Keeps the page count that a record gives, if it gives one.
-fn keep_count(counts: &mut PageCounts, next: &Record) -> Result<(), AllocError>
-    ensures { OnOk result (counts.new ≡ record counts.old {
-      given = counts.old.given ++ option_to_list (given_by next.now);
-    }) }
-{
-    if let Some(pages) = next.given_count() {
-        let lsn = next.lsn();
-        counts.note(GivenCount { lsn, pages })?;
     }
     Ok(())
 }

@@ -8,10 +8,11 @@ ghost use Rattle.log_records.specs.Log.{IsLog, Log, SpellsLog};
 ghost use Rattle.log_store.specs.Fault.{GaveNoFault, Refuses};
 ghost use Rattle.loser_undo.specs.Losers.{losers_of};
 ghost use Rattle.loser_undo.specs.Kept.{kept_of};
+ghost use Rattle.page_redo.specs.Placed.{placed_in};
 
-use crate::log_changes::LogChanges;
+use crate::log_changes::{Changes, LogChanges};
 use log_records::Record;
-use log_store::{LogReadFault, RecordSink, scan_log};
+use log_store::{Analysis, LogReadFault, RecordSink, scan_log};
 use std::alloc::{AllocError, Global};
 use std::io::Read;
 use txn_table::Losers;
@@ -27,19 +28,20 @@ pub struct ReadLog<K> {
     pub losers: Losers,
 }
 
-/// Keeps what a restore needs of a log, and what another sink keeps.
+/// Keeps the changes of a log, and what another sink keeps.
 #[derive(Drop)]
 struct ChangesAnd<K> {
-    changes: LogChanges,
+    changes: Changes,
     kept: K,
 }
 
 impl<K: RecordSink> RecordSink for ChangesAnd<K> {
-    ghost holds = { λ sink log. (sink.changes ≡ kept_of log) × K.holds sink.kept log };
+    ghost holds = { λ sink log. (sink.changes.list.items ≡ placed_in log.records)
+        × K.holds sink.kept log };
 
     fn start(alloc: Global, pages: u32) -> Result<ChangesAnd<K>, AllocError> {
         Ok(ChangesAnd {
-            changes: LogChanges::start(alloc, pages)?,
+            changes: Changes::start(alloc, pages)?,
             kept: K::start(alloc, pages)?,
         })
     }
@@ -73,11 +75,17 @@ pub fn read_changes_and<R: Read, K: RecordSink + Drop>(
 {
     let scan = scan_log::<R, ChangesAnd<K>>(alloc, reader)?;
     let ChangesAnd { changes, kept } = scan.sink;
-    let losers = scan.history.into_open().into_losers();
+    let Analysis {
+        records,
+        txns,
+        complete,
+        counts,
+        ..
+    } = scan.history.into_analysis();
     Ok(ReadLog {
-        changes,
+        changes: LogChanges::new(changes, records, counts, complete),
         kept,
-        losers,
+        losers: txns.into_losers(),
     })
 }
 

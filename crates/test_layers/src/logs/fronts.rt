@@ -275,7 +275,7 @@ fn a_front_has_its_history(rt: HostRuntime) -> Result<(), Fail> {
     };
     same(&rt, &cut, &Some(torn));
     same(&rt, &scan.history.pages().len(), &3);
-    let open = scan.history.into_open();
+    let open = scan.history.into_analysis().txns;
     same(&rt, &open.open_count(), &1);
     drop(open);
     Ok(())

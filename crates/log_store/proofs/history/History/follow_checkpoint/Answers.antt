@@ -20,7 +20,8 @@ returns-clause-taken c = λ yes.
         replaces = after.0;
         more = more-none _ r (checkpoint_gives_none r c.requires.kind);
       },
-      ap (λ t. let m : Made = record { table = old.txns.table; checkpoints = t; pages = old.pages.items } in m)
+      ap (λ t. let m : Made = record
+          { table = old.txns.table; checkpoints = t; counts = old.counts; pages = old.pages.items } in m)
           c.in_ok-note.ensures.ok
           ∙ ap (λ (m : Made). let n : Made = record m
           { checkpoints = noted_checkpoint m.checkpoints r } in n) c.self.view_is

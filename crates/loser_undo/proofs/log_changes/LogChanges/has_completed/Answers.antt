@@ -1,9 +1,10 @@
 use Rattle.std.proofs.Common.{◌≡◌, ◌∙◌, ◌&&◌, true, false, ap, ap₂, arith, length, refl, sym, true≢false}
 use Rattle.std.specs.List.{list_any}
 use Rattle.std.proofs.lemmas.List.Folds.{list_any_at, list_any_none}
-use Rattle.log_store.specs.declared.master.Master.{Master}
+use Rattle.log_rules.specs.declared.ckpt_point.CkptPoint.{CkptPoint}
+use Rattle.log_rules.specs.Checkpoint.{completed_in}
 use Rattle.log_rules.proofs.Public.{complete-of_end, end-of_complete}
-use Rattle.loser_undo.specs.Kept.{Kept, completed_in}
+use Rattle.loser_undo.specs.Kept.{Kept}
 use Rattle.loser_undo.proofs.Completed.{ended_by, is_named, named_by}
 use Rattle.loser_undo.proofs.log_changes.LogChanges.has_completed.Goals as goal
 
@@ -35,7 +36,7 @@ returns c = λ log kept linked.
     c.deref-checkpoint-items.ensures.value ∙ ap (λ (k : Kept). k.checkpoints) c.self.view_is in
     let none : list_any (is_named begin end) xs ≡ false =
     list_any_none (is_named begin end) xs
-    (λ k d lt. c.loop-checkpoint.invariant k d (omega (arith, lt, ap (length {A = Master}) same, c.loop-checkpoint-test.false))) in (
+    (λ k d lt. c.loop-checkpoint.invariant k d (omega (arith, lt, ap (length {A = CkptPoint}) same, c.loop-checkpoint-test.false))) in (
       λ yes. cc,
       λ whole.
           let has = end-of_complete rs begin end whole in
