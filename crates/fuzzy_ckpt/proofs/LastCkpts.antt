@@ -3,7 +3,7 @@ use Rattle.std.proofs.Common.{◌≡◌, ℕ, suc, zero, ◌<◌, ◌≤◌, Lis
 use Rattle.std.proofs.Common.{arith, inl, inr, subst, get_or, ◌-◌, ◌/◌}
 use Rattle.std.specs.Prelude.{Contains, Option, Some, None, IsSomeAnd}
 use Rattle.std.specs.Option.{option_map}
-use Rattle.std.proofs.lemmas.List.{append-nil, get_or-take, get_or_push, length-take, length_push, take_all}
+use Rattle.std.proofs.lemmas.List.{append-nil, get_or-take, get_or_default, get_or_push, length-take, length_push, take_all}
 use Rattle.std.proofs.lemmas.Option.{slice_get-get_or}
 use Rattle.std.proofs.lemmas.List.Sums.{fold_push}
 use Rattle.std.proofs.lemmas.List.Elements.{Contains-append_cases, Contains-append_left, Contains-append_right}
@@ -15,6 +15,7 @@ use Rattle.log_rules.specs.declared.ckpt_point.CkptPoint.{CkptPoint}
 use Rattle.log_rules.specs.Checkpoint.{Checkpoint, checkpoint_after, completed_by, completed_in, open_checkpoint}
 use Rattle.log_rules.specs.Transactions.{last_of}
 use Rattle.log_rules.proofs.Public.{filter_map_push}
+use Rattle.log_store.specs.declared.checkpoints.OpenCkpt.{OpenCkpt}
 use Rattle.log_store.specs.Analysis.{begun_of}
 use Rattle.log_rules.specs.Linked.{MayEnd}
 use Rattle.fuzzy_ckpt.specs.declared.point.Point.{Point}
@@ -136,13 +137,20 @@ last_completed log valid =
     up_to (suc n) le =
         let lt : n < length log.records = omega arith in
         let r = get_or log.records n (Begin 0 0) in
-        subst (HasLast log) (sym (take-suc log.records n r lt))
-        (last_more log (take n log.records) r (end_by_next log n r valid lt refl) (up_to n (omega arith)))
+        subst (HasLast log) (sym (take-suc log.records n (Begin 0 0) lt))
+        (last_more log (take n log.records) r
+        (end_by_next log n r valid lt (get_or_default log.records n r (Begin 0 0) lt)) (up_to n (omega arith)))
 
 -- the open one, with the page count at its begin
+abbrev pub begun_view : Log → OpenCkpt → CkptView Phase
+begun_view log it = record {
+  begin = it.begin;
+  pages = page_count_below log it.begin;
+  redo = it.redo;
+  phase = gathered;
+}
+
 pub begun_at : (log : Log) (o : Option Checkpoint)
-    → option_map (λ b. let v : CkptView Phase = record
-    { begin = b.begin; pages = page_count_below log b.begin; redo = b.redo; phase = gathered } in v) (option_map begun_of o)
-    ≡ option_map (gathered_of log) o
+    → option_map (begun_view log) (option_map begun_of o) ≡ option_map (gathered_of log) o
 begun_at log None = refl
 begun_at log (Some c) = refl

@@ -8,6 +8,7 @@ ghost use Rattle.log_records.specs.Record.{own_lsn};
 ghost use Rattle.log_rules.specs.Checkpoint.{Checkpoint, checkpoint_after, completed_in};
 ghost use Rattle.log_rules.specs.Checkpoint.{open_checkpoint};
 ghost use Rattle.log_rules.specs.Linked.{IsLinked, MayFollow};
+ghost use Rattle.log_rules.specs.Transactions.{last_of};
 ghost use Rattle.log_store.specs.Analysis.{IsAnalysisOf, begun_of};
 ghost use Rattle.fuzzy_ckpt.specs.Ckpt.{gathered_ckpt};
 ghost use Rattle.fuzzy_ckpt.specs.LogCheckpoints.{EndBy, IsLastPoint, gathered_of};
@@ -39,25 +40,26 @@ impl LogCheckpoints {
             ≡ option_map (gathered_of log) (open_checkpoint log.records) }
     {
         LogCheckpoints {
-            last: last_of(&found.complete, &found.counts),
+            last: point_of(found.complete.last().copied(), &found.counts),
             open: begun_of(found.begun, &found.counts),
         }
     }
 }
 
-/// The last of these complete checkpoints, with the page count at its begin.
-fn last_of(complete: &[CkptPoint], counts: &PageCounts) -> Option<Point>
-    ensures { (log : Log) → complete.now ≡ completed_in log.records → counts.now ≡ counts_of log
-        → IsLog log → IsLastPoint log log.records result }
+/// The last complete checkpoint, with the page count at its begin.
+fn point_of(last: Option<CkptPoint>, counts: &PageCounts) -> Option<Point>
+    ensures { (log : Log) → last ≡ last_of (completed_in log.records)
+        → counts.now ≡ counts_of log → IsLog log → IsLastPoint log log.records result }
 {
-    let CkptPoint { begin, end, redo } = *complete.last()?;
-    let pages = counts.below(begin);
-    Some(Point {
-        begin,
-        end,
-        redo,
-        pages,
-    })
+    match last {
+        Some(point) => Some(Point {
+            begin: point.begin,
+            end: point.end,
+            redo: point.redo,
+            pages: counts.below(point.begin),
+        }),
+        None => None,
+    }
 }
 
 /// An open checkpoint, as one whose gather has ended.
@@ -66,8 +68,10 @@ fn begun_of(begun: Option<OpenCkpt>, counts: &PageCounts) -> Option<Ckpt<Gathere
         → counts.now ≡ counts_of log → IsLog log → option_map gathered_ckpt result
         ≡ option_map (gathered_of log) (open_checkpoint log.records) }
 {
-    let OpenCkpt { begin, redo } = begun?;
-    Some(Ckpt::found(begin, counts.below(begin), redo))
+    match begun {
+        Some(it) => Some(Ckpt::found(it.begin, counts.below(it.begin), it.redo)),
+        None => None,
+    }
 }
 
 /// The last complete checkpoint of a linked log, and the open one. It reads each record once, and
