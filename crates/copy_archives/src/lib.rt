@@ -20,7 +20,7 @@ pub use archive_laws::{
     copies_are_spelled_apart,
 };
 pub use chain_laws::a_chain_is_not_refused;
-pub use chain_pages::read_chain_pages;
+pub use chain_pages::{read_chain_pages, read_chain_pages_into};
 pub use chain_read_fault::ChainReadFault;
 pub use chain_reader::ChainReader;
 pub use read::read_archive;
