@@ -4,7 +4,8 @@ ghost use Rattle.std.specs.Prelude.{◌≡◌, [], IfOk, IfErr, IfSome, OnOk};
 ghost use Rattle.std.specs.Io.KnownBytes.{IsAtEnd};
 ghost use Rattle.page_core.specs.Input.{StaysKnown};
 ghost use Rattle.log_rules.specs.Linked.{IsLinked};
-ghost use Rattle.log_records.specs.Log.{IsLog, Log, SpellsLog};
+ghost use Rattle.log_records.specs.Image.{redo_all};
+ghost use Rattle.log_records.specs.Log.{IsLog, Log, SpellsLog, page_count};
 ghost use Rattle.log_store.specs.Fault.{GaveNoFault, Refuses};
 ghost use Rattle.loser_undo.specs.Losers.{losers_of};
 ghost use Rattle.loser_undo.specs.Kept.{kept_of};
@@ -13,6 +14,7 @@ ghost use Rattle.page_redo.specs.Placed.{placed_in};
 use crate::log_changes::{Changes, LogChanges};
 use log_records::Record;
 use log_store::{Analysis, LogReadFault, RecordSink, scan_log};
+use page_core::Page;
 use std::alloc::{AllocError, Global};
 use std::io::Read;
 use txn_table::Losers;
@@ -26,6 +28,8 @@ pub struct ReadLog<K> {
     pub kept: K,
     /// The transactions that are open at its end, with their pending changes.
     pub losers: Losers,
+    /// The pages that it makes of formatted ones. A restore needs just their room.
+    pub pages: Vec<Page>,
 }
 
 /// Keeps the changes of a log, and what another sink keeps.
@@ -53,8 +57,8 @@ impl<K: RecordSink> RecordSink for ChangesAnd<K> {
 }
 
 /// Reads a whole log, to the input's end, and answers what a restore needs of it, what a sink keeps
-/// of it besides, and the transactions that are open at its end with their pending changes: reading
-/// has made these, since they decide which record may follow.
+/// of it besides, the transactions that are open at its end with their pending changes, and the
+/// pages of its volume: reading has made these, since they decide which record may follow.
 ///
 /// The faults, and where the reader stands after one, are those of `scan_log`.
 pub fn read_changes_and<R: Read, K: RecordSink + Drop>(
@@ -63,8 +67,9 @@ pub fn read_changes_and<R: Read, K: RecordSink + Drop>(
 ) -> Result<ReadLog<K>, LogReadFault>
     ensures known { StaysKnown (R.remaining reader.old) (R.remaining reader.new) }
     ensures found { IfOk result (λ it. (log : Log) × ((it.changes ≡ kept_of log)
-        × (K.holds it.kept log × ((it.losers ≡ losers_of log.records) × (IsLinked log.records
-        × (IsLog log × IfSome (R.remaining reader.old) (SpellsLog log))))))) }
+        × (K.holds it.kept log × ((it.losers ≡ losers_of log.records)
+        × ((it.pages.items ≡ redo_all log.records (page_count log)) × (IsLinked log.records
+        × (IsLog log × IfSome (R.remaining reader.old) (SpellsLog log)))))))) }
     ensures end { OnOk result (IsAtEnd (R.remaining reader.new)) }
     // The fault is the first one.
     ensures first { IfErr result (λ fault. IfSome (R.remaining reader.old)
@@ -80,12 +85,14 @@ pub fn read_changes_and<R: Read, K: RecordSink + Drop>(
         txns,
         complete,
         counts,
+        pages,
         ..
     } = scan.history.into_analysis();
     Ok(ReadLog {
         changes: LogChanges::new(changes, records, counts, complete),
         kept,
         losers: txns.into_losers(),
+        pages,
     })
 }
 

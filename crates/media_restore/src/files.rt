@@ -7,7 +7,7 @@ ghost use Rattle.media_restore.specs.FilesStop.{AreReadWhole, StopsIn};
 
 use crate::files_fault::RestoreFault;
 use crate::files_master::read_master;
-use copy_vault::read_chain_pages;
+use copy_vault::read_chain_pages_into;
 use log_records::MAX_RECORDS;
 use log_store::RecordSink;
 use loser_undo::{ReadLog, read_changes_and, undo_into};
@@ -161,9 +161,17 @@ pub(crate) fn read_files<L: Read, M: Read, A: Read, K: RecordSink + Drop>(
         changes,
         kept,
         losers,
+        pages,
     } = read_changes_and::<L, K>(alloc, log)?;
     read_master(master, &changes)?;
-    let (mut pages, redo) = read_chain_pages(alloc, archives, changes.counts(), changes.end())?;
+    // Where the log's pages stand there is room for those of the chain.
+    let (mut pages, redo) = read_chain_pages_into(
+        alloc,
+        archives,
+        changes.counts(),
+        changes.end(),
+        pages,
+    )?;
     let count = changes.count();
     if count as u64 + losers.owed() > MAX_RECORDS as u64 {
         return Err(RestoreFault::LogFull);

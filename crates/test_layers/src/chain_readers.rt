@@ -2,8 +2,8 @@
 
 use crate::archives::put;
 use crate::asserts::same;
-use copy_vault::{ChainReadFault, ChainReader, CopyId, read_chain_pages};
-use page_core::{GivenCount, Lsn, Page, PageCounts, PageNo};
+use copy_vault::{ChainReadFault, ChainReader, CopyId, read_chain_pages, read_chain_pages_into};
+use page_core::{GivenCount, Lsn, Page, PageCounts, PageNo, SLOTS};
 use std::alloc::Global;
 use std::io;
 use std::io::{ErrorKind, Read};
@@ -187,6 +187,41 @@ fn all_pages_of_a_volume_that_grew_are_read(rt: HostRuntime) -> Result<(), Fail>
     let wanted = [(0, 64), (1, 0), (2, 128), (3, 0), (4, 0)];
     same(&rt, &given.as_slice(), &wanted.as_slice());
     same(&rt, &redo, &Lsn(192));
+    Ok(())
+}
+
+#[test]
+fn pages_of_a_chain_take_the_place_of_given_ones(rt: HostRuntime) -> Result<(), Fail> {
+    let alloc = rt.alloc();
+    let full = archive(alloc, (1, 0), (2, 64), &[(0, 64), (1, 0)])?;
+    let next = archive(alloc, (2, 1), (4, 192), &[(2, 128)])?;
+    let counts = grown(alloc)?;
+    let wanted = [(0, 64), (1, 0), (2, 128), (3, 0), (4, 0)];
+    for count in [0, 1, 5, 8] {
+        let mut given = Vec::new(alloc);
+        for _ in 0..count {
+            given.push(Page {
+                number: PageNo(7),
+                lsn: Lsn(448),
+                slots: [1; SLOTS],
+            })?;
+        }
+        let mut readers = [full.as_slice(), next.as_slice()];
+        let read = read_chain_pages_into(alloc, &mut readers, &counts, Lsn(512), given);
+        let Ok((pages, redo)) = read else {
+            return Err(Fail::new("the chain is refused"));
+        };
+        let mut made = Vec::new(alloc);
+        let mut is_formatted = true;
+        for page in &pages {
+            made.push((page.number.0, page.lsn.0))?;
+            is_formatted = is_formatted && page.slots == [0; SLOTS];
+        }
+        drop(pages);
+        same(&rt, &made.as_slice(), &wanted.as_slice());
+        same(&rt, &is_formatted, &true);
+        same(&rt, &redo, &Lsn(192));
+    }
     Ok(())
 }
 

@@ -26,27 +26,27 @@ pub returns-in_err-read_master-clause-err : goal.returns-in_err-read_master-clau
 returns-in_err-read_master-clause-err g c =
     let found = c.in_ok-changes.ensures.found in
     let p = err_from_is_err_and c.from_residual-in_err-read_master.result c.from_residual-in_err-read_master.ensures.1 in
-    rw (p.1, p.2) (of_the_master found.0 (is_of_log (g.L.Read.remaining c.args.log.now) found.0 found.1.1.1.1)
-    (c.in_err-read_master.ensures.err found.0 found.1.0 found.1.1.1.1.0))
+    rw (p.1, p.2) (of_the_master found.0 (is_of_log (g.L.Read.remaining c.args.log.now) found.0 found.1.1.1.1.1)
+    (c.in_err-read_master.ensures.err found.0 found.1.0 found.1.1.1.1.1.0))
 
 pub returns-in_err-read_master-clause-stops : goal.returns-in_err-read_master-clause-stops
 returns-in_err-read_master-clause-stops g c =
     let found = c.in_ok-changes.ensures.found in
     let p = err_from_is_err_and c.from_residual-in_err-read_master.result c.from_residual-in_err-read_master.ensures.1 in
-    rw (p.1, p.2) (the_master found.0 (is_of_log (g.L.Read.remaining c.args.log.now) found.0 found.1.1.1.1)
+    rw (p.1, p.2) (the_master found.0 (is_of_log (g.L.Read.remaining c.args.log.now) found.0 found.1.1.1.1.1)
     (c.read_changes_and.ensures.known, c.in_ok-changes.ensures.end) c.in_err-read_master.ensures.stops refl)
 
 -- ---- the archives are refused
 
 refused : (g : Over) (c : goal.After-drop-changes-inside-in_err-pages-3 g)
     → AreNoChain (counts_of c.in_ok-changes.ensures.found.0) (end_of c.in_ok-changes.ensures.found.0)
-    (map g.A.Read.remaining c.args.archives.now) (map g.A.Read.remaining c.read_chain_pages.new.readers)
+    (map g.A.Read.remaining c.args.archives.now) (map g.A.Read.remaining c.read_chain_pages_into.new.readers)
     c.in_err-pages.field-0.0
 refused g c =
     let found = c.in_ok-changes.ensures.found in
     of_log found.0 c.in_ok-changes.field-0.changes c.counts.result.now c.end.result
     (λ counts end. AreNoChain counts end (map g.A.Read.remaining c.args.archives.now)
-    (map g.A.Read.remaining c.read_chain_pages.new.readers) c.in_err-pages.field-0.0)
+    (map g.A.Read.remaining c.read_chain_pages_into.new.readers) c.in_err-pages.field-0.0)
     found.1.0 (c.counts.ensures found.0 found.1.0) c.end.ensures c.in_err-pages.ensures.err
 
 pub returns-in_err-pages-clause-err : goal.returns-in_err-pages-clause-err
@@ -54,11 +54,11 @@ returns-in_err-pages-clause-err g c =
     let found = c.in_ok-changes.ensures.found in
     let p = err_from_is_err_and c.from_residual-in_err-pages.result c.from_residual-in_err-pages.ensures.1 in
     rw (p.1, p.2) (of_the_archives found.0 c.in_ok-read_master.field-0
-    (is_of_log (g.L.Read.remaining c.args.log.now) found.0 found.1.1.1.1)
-    (c.in_ok-read_master.ensures.ok found.0 found.1.0 found.1.1.1.1.0) (record {
+    (is_of_log (g.L.Read.remaining c.args.log.now) found.0 found.1.1.1.1.1)
+    (c.in_ok-read_master.ensures.ok found.0 found.1.0 found.1.1.1.1.1.0) (record {
       why = c.in_err-pages.field-0.0;
       same = refl;
-      lefts = map g.A.Read.remaining c.read_chain_pages.new.readers;
+      lefts = map g.A.Read.remaining c.read_chain_pages_into.new.readers;
       refused = refused g c;
     }))
 
@@ -67,9 +67,9 @@ returns-in_err-pages-clause-stops g c =
     let found = c.in_ok-changes.ensures.found in
     let p = err_from_is_err_and c.from_residual-in_err-pages.result c.from_residual-in_err-pages.ensures.1 in
     rw (p.1, p.2) (the_archives found.0 c.in_ok-read_master.field-0
-    (is_of_log (g.L.Read.remaining c.args.log.now) found.0 found.1.1.1.1)
+    (is_of_log (g.L.Read.remaining c.args.log.now) found.0 found.1.1.1.1.1)
     (c.read_changes_and.ensures.known, c.in_ok-changes.ensures.end)
-    (c.in_ok-read_master.ensures.ok found.0 found.1.0 found.1.1.1.1.0) c.in_ok-read_master.ensures.end
+    (c.in_ok-read_master.ensures.ok found.0 found.1.0 found.1.1.1.1.1.0) c.in_ok-read_master.ensures.end
     c.in_err-pages.field-0.0 refl (refused g c))
 
 -- ---- all files are read
@@ -80,7 +80,7 @@ overflow_add-count g c =
     let log = found.0 in
     let kept = c.in_ok-changes.field-0.changes in
     let losers = c.in_ok-changes.field-0.losers in
-    let all = total log kept losers c.count-count.result found.1.1.1.1.1.0 found.1.1.1.1.0 found.1.0 found.1.1.1.0
+    let all = total log kept losers c.count-count.result found.1.1.1.1.1.1.0 found.1.1.1.1.1.0 found.1.0 found.1.1.1.0
     c.count-count.ensures c.owed.result c.owed.ensures in
     omega (arith, all.few)
 
@@ -101,9 +101,9 @@ returns-then-count-owed-clause-err g c =
       archives = inputs;
     } in
     let master = c.in_ok-read_master.field-0 in
-    let parts = all_parts files log master pages c.in_ok-pages.redo (is_of_log files.log log found.1.1.1.1)
-    (c.in_ok-read_master.ensures.ok log found.1.0 found.1.1.1.1.0) chain in
-    let all = total log kept losers c.count-count.result found.1.1.1.1.1.0 found.1.1.1.1.0 found.1.0 found.1.1.1.0
+    let parts = all_parts files log master pages c.in_ok-pages.redo (is_of_log files.log log found.1.1.1.1.1)
+    (c.in_ok-read_master.ensures.ok log found.1.0 found.1.1.1.1.1.0) chain in
+    let all = total log kept losers c.count-count.result found.1.1.1.1.1.1.0 found.1.1.1.1.1.0 found.1.0 found.1.1.1.0
     c.count-count.ensures c.owed.result c.owed.ensures in
     of_undo log master chain.copies parts refl (omega (arith, all.is, c.if-count-owed.true))
 
@@ -136,12 +136,12 @@ returns-clause-ok g c =
       archives = inputs;
     } in
     let master = c.in_ok-read_master.field-0 in
-    let parts = all_parts files log master pages c.in_ok-pages.redo (is_of_log files.log log found.1.1.1.1)
-    (c.in_ok-read_master.ensures.ok log found.1.0 found.1.1.1.1.0) chain in
-    let all = total log kept losers c.count-count.result found.1.1.1.1.1.0 found.1.1.1.1.0 found.1.0 found.1.1.1.0
+    let parts = all_parts files log master pages c.in_ok-pages.redo (is_of_log files.log log found.1.1.1.1.1)
+    (c.in_ok-read_master.ensures.ok log found.1.0 found.1.1.1.1.1.0) chain in
+    let all = total log kept losers c.count-count.result found.1.1.1.1.1.1.0 found.1.1.1.1.1.0 found.1.0 found.1.1.1.0
     c.count-count.ensures c.owed.result c.owed.ensures in
     let redo = λ (page : Page). resume page log.records c.in_ok-pages.redo in
-    let made = c.redo_changes.ensures log found.1.1.1.1.1.0
+    let made = c.redo_changes.ensures log found.1.1.1.1.1.1.0
     (c.changes-2.ensures ∙ ap (λ (k : Kept). k.changes) found.1.0) in
     let long = ap length made ∙ length-map c.deref_mut.result.now redo ∙ c.deref_mut.ensures.len in (
       log,
@@ -151,7 +151,7 @@ returns-clause-ok g c =
           master = master;
           copies = chain.copies;
           parts = parts;
-          to_undo = may_be_undone log kept losers c.count-count.result found.1.1.1.1.1.0 found.1.1.1.1.0 found.1.0
+          to_undo = may_be_undone log kept losers c.count-count.result found.1.1.1.1.1.1.0 found.1.1.1.1.1.0 found.1.0
               found.1.1.1.0 c.count-count.ensures (omega (arith, all.is, c.if-count-owed.false));
           made = with_items_is c.in_ok-pages.pages c.redo_changes.new.pages long ∙ made
               ∙ ap (map redo) c.deref_mut.ensures.value ∙ redone_pages log inputs pages c.in_ok-pages.redo chain;
