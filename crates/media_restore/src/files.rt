@@ -164,14 +164,9 @@ pub(crate) fn read_files<L: Read, M: Read, A: Read, K: RecordSink + Drop>(
         pages,
     } = read_changes_and::<L, K>(alloc, log)?;
     read_master(master, &changes)?;
+    let end = changes.end();
     // Where the log's pages stand there is room for those of the chain.
-    let (mut pages, redo) = read_chain_pages_into(
-        alloc,
-        archives,
-        changes.counts(),
-        changes.end(),
-        pages,
-    )?;
+    let (mut pages, redo) = read_chain_pages_into(alloc, archives, changes.counts(), end, pages)?;
     let count = changes.count();
     if count as u64 + losers.owed() > MAX_RECORDS as u64 {
         return Err(RestoreFault::LogFull);

@@ -44,10 +44,10 @@ refused : (g : Over) (c : goal.After-drop-changes-inside-in_err-pages-3 g)
     c.in_err-pages.field-0.0
 refused g c =
     let found = c.in_ok-changes.ensures.found in
-    of_log found.0 c.in_ok-changes.field-0.changes c.counts.result.now c.end.result
+    of_log found.0 c.in_ok-changes.field-0.changes c.counts.result.now c.end-end.result
     (λ counts end. AreNoChain counts end (map g.A.Read.remaining c.args.archives.now)
     (map g.A.Read.remaining c.read_chain_pages_into.new.readers) c.in_err-pages.field-0.0)
-    found.1.0 (c.counts.ensures found.0 found.1.0) c.end.ensures c.in_err-pages.ensures.err
+    found.1.0 (c.counts.ensures found.0 found.1.0) c.end-end.ensures c.in_err-pages.ensures.err
 
 pub returns-in_err-pages-clause-err : goal.returns-in_err-pages-clause-err
 returns-in_err-pages-clause-err g c =
@@ -92,9 +92,9 @@ returns-then-count-owed-clause-err g c =
     let losers = c.in_ok-changes.field-0.losers in
     let inputs = map g.A.Read.remaining c.args.archives.now in
     let pages = c.in_ok-pages.pages.items in
-    let chain = of_log log kept c.counts.result.now c.end.result
+    let chain = of_log log kept c.counts.result.now c.end-end.result
     (λ counts end. IsChainRead counts end inputs pages c.in_ok-pages.redo) found.1.0 (c.counts.ensures log found.1.0)
-    c.end.ensures c.in_ok-pages.ensures.ok in
+    c.end-end.ensures c.in_ok-pages.ensures.ok in
     let files : Files = record {
       log = g.L.Read.remaining c.args.log.now;
       master = g.M.Read.remaining c.args.master.now;
@@ -114,9 +114,9 @@ redo_changes-requires-clause-numbered g c κs within =
     let kept = c.in_ok-changes.field-0.changes in
     let inputs = map g.A.Read.remaining c.args.archives.now in
     let pages = c.in_ok-pages.pages.items in
-    let chain = of_log log kept c.counts.result.now c.end.result
+    let chain = of_log log kept c.counts.result.now c.end-end.result
     (λ counts end. IsChainRead counts end inputs pages c.in_ok-pages.redo) found.1.0 (c.counts.ensures log found.1.0)
-    c.end.ensures c.in_ok-pages.ensures.ok in
+    c.end-end.ensures c.in_ok-pages.ensures.ok in
     subst AreNumbered (sym c.deref_mut.ensures.value) (chain_numbered log inputs pages c.in_ok-pages.redo chain)
 
 pub returns-clause-ok : goal.returns-clause-ok
@@ -127,9 +127,9 @@ returns-clause-ok g c =
     let losers = c.in_ok-changes.field-0.losers in
     let inputs = map g.A.Read.remaining c.args.archives.now in
     let pages = c.in_ok-pages.pages.items in
-    let chain = of_log log kept c.counts.result.now c.end.result
+    let chain = of_log log kept c.counts.result.now c.end-end.result
     (λ counts end. IsChainRead counts end inputs pages c.in_ok-pages.redo) found.1.0 (c.counts.ensures log found.1.0)
-    c.end.ensures c.in_ok-pages.ensures.ok in
+    c.end-end.ensures c.in_ok-pages.ensures.ok in
     let files : Files = record {
       log = g.L.Read.remaining c.args.log.now;
       master = g.M.Read.remaining c.args.master.now;
