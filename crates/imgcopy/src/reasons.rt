@@ -1,12 +1,12 @@
 //! What is wrong with a file that was refused, for a person: the file is read once more.
 
-use crate::chain_reason::{ChainReason, chain_reason, pages_below};
+use crate::chain_reason::ChainReason;
 use crate::headers::{FileKind, kind_of, last_kind};
 use copy_audit::Unsound;
 use copy_vault::{ArchiveFault, CopyId};
 use file_view::{CopyHeader, ViewFault, read_copy_header};
 use log_records::{RECORD_BYTES, log_header};
-use log_store::LogReadFault;
+use log_store::{LogReadFault, Reached, broken_rule_at, scan_to_fault};
 use media_restore::RestoreFault;
 use page_core::field::u64_at;
 use page_core::{Lsn, PAGE_BYTES, PageNo};
@@ -359,8 +359,10 @@ fn reason_of_torn(rt: &HostRuntime, name: &str, at: Lsn) -> Option<Reason> {
 }
 
 fn reason_of_chain(rt: &HostRuntime, name: &str, at: Lsn) -> Option<Reason> {
-    let file = fs::open(rt, name).ok()?;
-    Some(Reason::Chain(chain_reason(rt.alloc(), file, at)?))
+    let bytes = bytes_at(rt, name, at.0)?;
+    let mut file = fs::open(rt, name).ok()?;
+    let rule = broken_rule_at(rt.alloc(), &mut file, at, &bytes).ok()?;
+    Some(Reason::Chain(ChainReason(rule?)))
 }
 
 fn reason_of_master(rt: &HostRuntime, name: &str) -> Option<Reason> {
@@ -389,7 +391,10 @@ fn pages_before(rt: &HostRuntime, log: &str, lsn: Lsn) -> Option<u32> {
     if !is_regular(rt, log) {
         return None;
     }
-    pages_below(rt.alloc(), fs::open(rt, log).ok()?, lsn)
+    let mut file = fs::open(rt, log).ok()?;
+    let reached: Reached<()> = scan_to_fault(rt.alloc(), &mut file).ok()?;
+    let found = reached.scan.history.into_analysis();
+    Some(found.counts.below(lsn))
 }
 
 fn reason_of_count(rt: &HostRuntime, name: &str) -> Option<Reason> {

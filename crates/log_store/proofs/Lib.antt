@@ -1,3 +1,4 @@
+pub mod BrokenRules
 pub mod Devices
 pub mod Faults
 pub mod Histories

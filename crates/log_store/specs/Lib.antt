@@ -1,4 +1,5 @@
 pub mod Analysis
+pub mod BrokenRule
 pub mod Device
 pub mod Fault
 pub mod FaultyDevice

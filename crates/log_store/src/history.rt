@@ -1,12 +1,15 @@
 //! Replays a log while it is read. The records so far have led to a state of transactions,
 //! checkpoints and pages, and that state decides whether the next record may follow.
 
-ghost use Rattle.std.specs.Prelude.{◌↔◌, length, IsTrue};
+ghost use Rattle.std.specs.Prelude.{◌↔◌, length, IsTrue, MatchOption};
 ghost use Rattle.log_records.specs.Log.{IsWithin};
+ghost use Rattle.log_records.specs.PageCount.{GivesMore};
 ghost use Rattle.log_records.specs.Record.{IsRecord};
 ghost use Rattle.log_rules.specs.History.{NamesNumberOn};
+ghost use Rattle.log_store.specs.BrokenRule.{IsBrokenOn};
 
 use crate::analysis::Analysis;
+use crate::broken_rule::{BrokenRule, rule_of_txns};
 use crate::checkpoints::Checkpoints;
 use log_records::{Record, redo_on_its_page};
 use page_core::{
@@ -43,11 +46,12 @@ impl Model for History {
 }
 
 impl History {
-    ghost use Rattle.std.specs.Prelude.{ℕ, ◌≡◌, [], length, IfOk, IsTrue, OnErr};
+    ghost use Rattle.std.specs.Prelude.{ℕ, ◌≡◌, ◌↔◌, [], length, IfOk, IfSome, IsTrue, None, OnErr};
     ghost use Rattle.log_records.specs.declared.record.Record.TheVariants.{Extend};
     ghost use Rattle.log_rules.specs.History.{IsMadeOf, MayComeNext, followed};
     ghost use Rattle.log_records.specs.Log.{IsWithin, Log};
     ghost use Rattle.log_store.specs.Analysis.{IsAnalysisOf};
+    ghost use Rattle.log_store.specs.BrokenRule.{IsBroken};
     ghost use Rattle.log_records.specs.Record.{IsOfCheckpoint, IsOfTransaction, IsRecord};
 
     /// What the empty log of so many pages makes: no transaction, and formatted pages. An `Err`
@@ -128,6 +132,22 @@ impl History {
         }
     }
 
+    /// The rule that a record breaks, so that it may not come next; None where it may.
+    pub fn broken_rule(&self, next: &Record) -> Option<BrokenRule>
+        requires valid { IsRecord next.now }
+        requires within { IsWithin (length self.now.pages) next.now }
+        ensures none { result ≡ None ↔ MayComeNext self.now next.now }
+        ensures broken { IfSome result (IsBroken self.now next.now) }
+    {
+        if !self.checkpoints.may_note(&self.txns, next) {
+            return Some(BrokenRule::Checkpoint);
+        }
+        match rule_of_txns(&self.txns, next) {
+            Some(rule) => Some(rule),
+            None => rule_of_pages(&self.pages, next),
+        }
+    }
+
     /// The same of an Extend, which gives the volume so many pages.
     fn follow_extend(&mut self, next: &Record, pages: u32) -> Result<bool, AllocError>
         requires kind { (lsn : ℕ) × (next.now ≡ Extend lsn pages) }
@@ -195,6 +215,35 @@ impl History {
         }
         redo_on_its_page(&mut self.pages, next);
         Ok(true)
+    }
+}
+
+/// The rule of pages that a record breaks; None where they let it come next.
+fn rule_of_pages(pages: &[Page], next: &Record) -> Option<BrokenRule>
+    requires valid { IsRecord next.now }
+    requires within { IsWithin (length pages.now) next.now }
+    ensures { MatchOption result (NamesNumberOn pages.now next.now × GivesMore (length pages.now) next.now)
+        (IsBrokenOn pages.now next.now) }
+{
+    match *next {
+        Record::Update { page, slot, .. } if !names_number_on(pages, next) => {
+            Some(BrokenRule::NotReplaced { page, slot })
+        }
+        Record::Extend { pages: given, .. } if given as usize <= pages.len() => {
+            let present = pages.len();
+            Some(BrokenRule::NotLarger { given, present })
+        }
+        Record::Update { .. }
+        | Record::Begin { .. }
+        | Record::Comp { .. }
+        | Record::Commit { .. }
+        | Record::Abort { .. }
+        | Record::End { .. }
+        | Record::BeginChkpt { .. }
+        | Record::ChkptPages { .. }
+        | Record::ChkptTxns { .. }
+        | Record::EndChkpt { .. }
+        | Record::Extend { .. } => None,
     }
 }
 
