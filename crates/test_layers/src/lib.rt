@@ -18,6 +18,8 @@ mod log_remains;
 #[cfg(test)]
 mod logs;
 #[cfg(test)]
+mod manifests;
+#[cfg(test)]
 mod open_transactions;
 #[cfg(test)]
 mod page_claims;

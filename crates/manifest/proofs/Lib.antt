@@ -1,0 +1,7 @@
+pub mod Collisions
+pub mod Apart
+pub mod Numbers
+pub mod Digits
+pub mod NoPieces
+pub mod Names
+pub mod Whole
