@@ -56,6 +56,10 @@ abbrev pub redone_of : Log → List CopyView → List Page
 redone_of log copies = map (λ page. resume page log.records (last_redo copies))
     (contents copies (page_count log))
 
+-- and with the records on them that undo appends to the log
+abbrev pub restored : Log → List CopyView → List Page
+restored log copies = map (λ page. image_from page (appended log)) (redone_of log copies)
+
 -- the files have all parts, and these are what undo goes on with: the losers of their log, which has
 -- so many records and room for those of undo, and the pages of their chain with redo of the log
 pub record IsRedoneFrom (files : Files) (log : Log) (losers : List TxnEntry) (count : ℕ)
@@ -65,10 +69,6 @@ pub record IsRedoneFrom (files : Files) (log : Log) (losers : List TxnEntry) (co
   pub parts : HasParts files log master copies
   pub to_undo : MayBeUndone log losers count
   pub made : pages ≡ redone_of log copies
-
--- and with the records on them that undo appends to the log
-abbrev pub restored : Log → List CopyView → List Page
-restored log copies = map (λ page. image_from page (appended log)) (redone_of log copies)
 
 -- the pages are those that the log makes with what undo appends to it, and have what was committed
 pub record AreSound (log : Log) (pages : List Page) : Type 0 where
