@@ -21,7 +21,7 @@ use Rattle.log_store.specs.WrittenLog.{WrittenLog}
 use Rattle.fuzzy_ckpt.proofs.Public.{open_same}
 use Rattle.txn_table.specs.declared.returns.Return.{Return}
 use Rattle.txn_table.specs.Returns.{returns_of}
-use Rattle.engine_rules.specs.EngineState.{EngineState, IsFit, appended, log_of}
+use Rattle.engine_rules.specs.EngineState.{EngineState, IsFit, with_appended, log_of}
 use Rattle.engine_rules.specs.EngineView.{IsConsistent, MediaView, engine_view}
 use Rattle.engine_rules.specs.EngineState.{with_page}
 use Rattle.engine_rules.specs.EngineState.{volume_pages}
@@ -55,7 +55,7 @@ pub kept_next : {S : Type 0} (stored : S → List Page) (s : EngineState) (old n
     (ckpts : MediaView) (returns : List Return) (r : Record) → IsConsistent stored s old pool ckpts → Comes s r
     → IfSome (change_of r) (λ c. IsResident s.resident c.page) → new ≡ table_of (s.log ++ r ∷ [])
     → IsPoolOf stored (with_next (log_of s) (r ∷ [])) after → returns ≡ returns_of (s.log ++ r ∷ [])
-    → IsConsistent stored (appended s r) new after (record ckpts { returns = returns })
+    → IsConsistent stored (with_appended s r) new after (record ckpts { returns = returns })
 kept_next stored s old new pool after ckpts returns r kept come there noted changed back =
     let fit = fit_appended s r kept.fit come there in
     record {
@@ -74,7 +74,7 @@ pub appended_is : {S D : Type 0} (stored : S → List Page) (old mid new : Writt
     → new.forced_end ≡ mid.forced_end → stored after.store ≡ stored pool.store → after.frames ≡ pool.frames
     → after.resident ≡ map (λ page. with_record page r) pool.resident
     → written_of after.states ≡ written_of pool.states → writing_of after.states ≡ writing_of pool.states
-    → (engine_view stored new after ckpts).state ≡ appended (engine_view stored old pool ckpts).state r
+    → (engine_view stored new after ckpts).state ≡ with_appended (engine_view stored old pool ckpts).state r
 appended_is stored old mid new pool after ckpts r same same_end next next_end store frames resident written writing =
     let count : length after.states ≡ length pool.states =
     sym (length-map after.states (λ (s : PageState). s.written)) ∙ ap length written
@@ -99,11 +99,11 @@ pub after_fetch : {S : Type 0} (stored : S → List Page) (s came new : EngineSt
     → p < volume_pages s → IfSome (change_of r) (λ c. c.page ≡ p) → came ≡ with_page s p → IsPoolOf stored (log_of s) fetched
     → table ≡ table_of (s.log ++ r ∷ []) → IsPoolOf stored (with_next (log_of s) (r ∷ [])) after
     → returns ≡ returns_of (s.log ++ r ∷ [])
-    → new ≡ appended came r → IsConsistent stored new table after (record ckpts { returns = returns })
+    → new ≡ with_appended came r → IsConsistent stored new table after (record ckpts { returns = returns })
 after_fetch stored s came new p old table pool fetched after ckpts returns r kept come within changes is of_log noted
     changed back next =
     subst (λ (t : EngineState). IsConsistent stored t table after (record ckpts { returns = returns }))
-    (sym (next ∙ ap (λ (t : EngineState). appended t r) is))
+    (sym (next ∙ ap (λ (t : EngineState). with_appended t r) is))
     (kept_next stored (with_page s p) old table fetched after ckpts returns r (record {
       fit = fetched_fit s p kept.fit within;
       table_of_log = kept.table_of_log;

@@ -11,7 +11,7 @@ ghost use Rattle.log_records.specs.Record.{change_of};
 ghost use Rattle.log_rules.specs.Transactions.{is_open, last_lsn};
 ghost use Rattle.engine_rules.specs.Asked.{asked};
 ghost use Rattle.engine_rules.specs.Call.{Calls};
-ghost use Rattle.engine_rules.specs.EngineState.{IsFit, appended, end, forced_to, new_state};
+ghost use Rattle.engine_rules.specs.EngineState.{IsFit, with_appended, end, forced_to, new_state};
 ghost use Rattle.engine_rules.specs.Refusal.{active_refusal, change_refusal, frame_refusal};
 ghost use Rattle.engine_rules.specs.Refusal.{has_no_room, page_refusal, rolling_refusal};
 ghost use Rattle.engine_rules.specs.Step.{FailsForcing, ForcedPart, Forces, LeavesDevice, Step};
@@ -423,7 +423,7 @@ impl<S: PageStore, D: LogDevice> Engine<S, D> {
     pub(crate) fn append(&mut self, next: Record) -> Result<(), Refusal>
         requires called { Calls self.old.state next }
         requires there { IfSome (change_of next) (λ c. IsResident self.old.state.resident c.page) }
-        ensures ok { OnOk result (self.new.state ≡ appended self.old.state next) }
+        ensures ok { OnOk result (self.new.state ≡ with_appended self.old.state next) }
         ensures err { IfErr result (λ why. (why ≡ Refusal.OutOfMemory)
             × (self.new.state ≡ self.old.state)) }
         ensures store { self.new.store ≡ self.old.store }

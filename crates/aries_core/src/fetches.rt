@@ -14,7 +14,7 @@ ghost use Rattle.buffer_pool.specs.Frames.{IsResident, is_resident};
 ghost use Rattle.buffer_pool.specs.Pool.{IsPoolOf};
 ghost use Rattle.engine_rules.specs.Asked.{page_asked};
 ghost use Rattle.engine_rules.specs.Call.{Calls};
-ghost use Rattle.engine_rules.specs.EngineState.{appended, end, update_record, with_page};
+ghost use Rattle.engine_rules.specs.EngineState.{with_appended, end, update_record, with_page};
 ghost use Rattle.engine_rules.specs.EngineState.{volume_pages};
 ghost use Rattle.engine_rules.specs.Refusal.{frame_refusal, page_refusal};
 ghost use Rattle.engine_rules.specs.Step.{FailsFetching};
@@ -124,7 +124,7 @@ impl<S: PageStore, D: LogDevice> Engine<S, D> {
         requires called { Calls self.old.state (update_record self.old.state txn page slot
             (with_before change (number_in self.old.state.log page slot))) }
         ensures ok { IfOk result (λ lsn. (lsn ≡ end self.old.state)
-            × (self.new.state ≡ appended (with_page self.old.state page)
+            × (self.new.state ≡ with_appended (with_page self.old.state page)
             (update_record self.old.state txn page slot
             (with_before change (number_in self.old.state.log page slot))))) }
         ensures err { IfErr result (λ why. FailsFetching self.old.state page why) }
@@ -162,7 +162,7 @@ impl<S: PageStore, D: LogDevice> Engine<S, D> {
         requires settled { ¬ MayGrow next }
         requires frame { frame_refusal self.old.state page ≡ None }
         ensures ok { OnOk result
-            (self.new.state ≡ appended (with_page self.old.state page) next) }
+            (self.new.state ≡ with_appended (with_page self.old.state page) next) }
         ensures err { IfErr result (λ why. FailsFetching self.old.state page why) }
         ensures same { OnErr result (self.new.state ≡ self.old.state) }
         ensures device { self.new.device ≡ self.old.device }

@@ -12,7 +12,7 @@ use Rattle.clap.specs.declared.error.Error.{Error}
 use Rattle.clap.specs.declared.error.kind.ErrorKind.TheVariants as kind
 use Rattle.clap.proofs.CallerReads.{signed_reads}
 use Rattle.clap.proofs.OnLiterals.{clap_on_literals}
-use Rattle.command_words.specs.Command.{ExplainsRead, IsFramesRead, IsRead, Names, PassesFrames, apps, audit_app}
+use Rattle.command_words.specs.Command.{ExplainsRead, IsFramesRead, IsNumberRead, Names, PassesFrames, apps, audit_app}
 use Rattle.command_words.specs.Command.{list_app, open_app, redo_into_app, restore_app, run_app, show_app}
 use Rattle.command_words.specs.declared.command.UsageFault.{UsageFault}
 use Rattle.command_words.specs.declared.command.UsageFault.TheVariants.{BadArguments, OutOfMemory}
@@ -80,10 +80,10 @@ matched words given app it same simple has =
 pub is_read : (E : Type 0) (G : Text → Result ℕ E → Type 0) (text : Text) (found : Option Text)
     (r : Option ℕ) (number : ℕ)
     → found ≡ Some text → ReadsOne G text r → ((u : Text) (x : Result ℕ E) → G u x → ParsesUnsigned 32 10 u x)
-    → r ≡ Some number → IsRead found number
+    → r ≡ Some number → IsNumberRead found number
 is_read E G text found None number is read parses same = absurd (none-some _ same)
 is_read E G text found (Some value) number is read parses same =
-    subst (λ o. IsRead o number) (sym is) (sym (parses text (Ok value) read).1 ∙ same_Some value number same)
+    subst (λ o. IsNumberRead o number) (sym is) (sym (parses text (Ok value) read).1 ∙ same_Some value number same)
 
 -- the number of a count that may be left out, where `number` is what was read or else 65,536
 pub frames_read : (E : Type 0) (G : Text → Result ℕ E → Type 0) (found : Found) (r : Option ℕ) (number : ℕ)

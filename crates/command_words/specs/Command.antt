@@ -248,21 +248,21 @@ abbrev pub IsTaken : List Text → Type 0
 IsTaken words = Any (IsTakenBy words) apps
 
 -- the text is a decimal number
-abbrev pub IsRead : Option Text → ℕ → Type 0
-IsRead text number =
+abbrev pub IsNumberRead : Option Text → ℕ → Type 0
+IsNumberRead text number =
     IsSomeAnd text (λ digits. digits_value 10 (without_leading_plus digits) ≡ number)
 
 -- the number that the text says, or 65,536 frames where there is no text
 abbrev pub IsFramesRead : Option Text → ℕ → Type 0
 IsFramesRead None frames = frames ≡ 65536
-IsFramesRead (Some text) frames = IsRead (Some text) frames
+IsFramesRead (Some text) frames = IsNumberRead (Some text) frames
 
 -- the number that the text says, or none where there is no text
 abbrev pub IsTold : Option Text → Option ℕ → Type 0
 IsTold None None = Unit {0}
 IsTold None (Some pages) = ⊥
 IsTold (Some text) None = ⊥
-IsTold (Some text) (Some pages) = IsRead (Some text) pages
+IsTold (Some text) (Some pages) = IsNumberRead (Some text) pages
 
 -- what the text of a flag says of it; without it there is none
 abbrev pub IsFlag : Option Text → Bool → Type 0
@@ -280,7 +280,7 @@ Gives words (RedoInto output force) = let rows = matches_of redo_into_app words 
     IsTakenBy words redo_into_app × (first_of (codes "into") rows ≡ Some output.now)
     × IsFlag (one_of (codes "with_force") rows) force
 Gives words (Run pages frames save strict force) = let rows = matches_of run_app words in
-    IsTakenBy words run_app × IsRead (one_of (codes "pages") rows) pages
+    IsTakenBy words run_app × IsNumberRead (one_of (codes "pages") rows) pages
     × IsFramesRead (one_of (codes "frames") rows) frames
     × (option_map (λ name. name.now) save ≡ first_of (codes "save") rows)
     × IsFlag (one_of (codes "is_strict") rows) strict

@@ -4,7 +4,7 @@ ghost use Rattle.std.specs.Prelude.{IsSomeAnd, MatchResult, Ok, Some, [], codes}
 ghost use Rattle.std.specs.Prelude.{is_some, map, option_map, slice_get, true, unwrap_or};
 ghost use Rattle.clap.specs.Words.{fault_of, first_value, found_of, kind_of, matched_of, one_of};
 ghost use Rattle.clap.specs.Words.{raw_values, rows_of};
-ghost use Rattle.command_words.specs.Command.{AsksForVersion, Explains, Gives, HasCounts, IsRead};
+ghost use Rattle.command_words.specs.Command.{AsksForVersion, Explains, Gives, HasCounts, IsNumberRead};
 ghost use Rattle.command_words.specs.Command.{IsRedo, IsTaken};
 ghost use Rattle.command_words.specs.Command.{ExplainsRead, ExplainsUnknown, IsFar, IsFramesRead};
 ghost use Rattle.command_words.specs.Command.{IsNear, IsUnknown, Names, PassesFrames, PassesPages};
@@ -342,7 +342,7 @@ fn pages_in(matches: &ArgMatches<'_>) -> u32
     requires { PassesPages (found_of matches.now) }
     ensures least { 1 ≤ result }
     ensures most { result ≤ 65536 }
-    ensures read { IsRead (one_of (codes "pages") (rows_of (found_of matches.now))) result }
+    ensures read { IsNumberRead (one_of (codes "pages") (rows_of (found_of matches.now))) result }
 {
     matches.get_one::<u32>("pages").unwrap()
 }

@@ -32,7 +32,7 @@ use Rattle.engine_calls.specs.declared.event.Event.{Event}
 use Rattle.engine_calls.specs.declared.refusal.Refusal.{Refusal}
 use Rattle.engine_rules.specs.Call.{Calls}
 use Rattle.engine_rules.specs.EngineState.{AreCounted, AreStable, EngineState, HaveMaster, IsFit}
-use Rattle.engine_rules.specs.EngineState.{appended, ckpt_end_effect, closed, end, end_ckpt_record}
+use Rattle.engine_rules.specs.EngineState.{with_appended, ckpt_end_effect, closed, end, end_ckpt_record}
 use Rattle.engine_rules.specs.EngineState.{forced_to, gathering, image_of, log_of, new_state}
 use Rattle.engine_rules.specs.EngineState.{point_of, with_copies, with_page, volume_pages}
 use Rattle.engine_rules.specs.Gather.{Left, pages_left}
@@ -67,11 +67,11 @@ record MayCome (s : EngineState) (r : Record) (left : Left) : Type 0 where
   gathered : AreGathered (with_next (log_of s) (r ∷ [])) s.stored left
 
 fit_with : (s : EngineState) (r : Record) (left : Left) → IsFit s → MayCome s r left
-    → IfSome (change_of r) (λ c. IsResident s.resident c.page) → IsFit (gathering (appended s r) left)
+    → IfSome (change_of r) (λ c. IsResident s.resident c.page) → IsFit (gathering (with_appended s r) left)
 fit_with s r left fit come there =
     let at = come.stands_at in
     let few : length s.log < MAX_RECORDS = let room = come.room in omega (arith, length_push s.log r) in
-    let count : volume_pages (appended s r) ≡ volume_pages s = page_count-same (log_of s) r come.no_count in
+    let count : volume_pages (with_appended s r) ≡ volume_pages s = page_count-same (log_of s) r come.no_count in
     record {
       valid = valid_next (log_of s) r fit.valid few at (more-none _ r come.no_count);
       linked = linked_push s.log r fit.linked come.may_follow;
@@ -130,7 +130,7 @@ comes_with s p r come = assumption (come)
 
 -- the state with the record of an accepted call at the end of its log
 pub fit_appended : (s : EngineState) (r : Record) → IsFit s → Comes s r
-    → IfSome (change_of r) (λ c. IsResident s.resident c.page) → IsFit (appended s r)
+    → IfSome (change_of r) (λ c. IsResident s.resident c.page) → IsFit (with_appended s r)
 fit_appended s r fit come there = fit_with s r s.left fit (record {
   may_follow = come.may_follow;
   room = come.room;
@@ -213,7 +213,7 @@ module _ (old : EngineState) (event : Event) (fit : IsFit old) where
 
   added_fit : (pages : List Page) (r : Record) (left : Left) → Start old event pages → MayCome old r left
       → IfSome (change_of r) (λ c. pages ≡ (with_page old c.page).resident)
-      → IsFit (gathering (appended (holding old pages) r) left)
+      → IsFit (gathering (with_appended (holding old pages) r) left)
   added_fit pages r left start come needs =
       fit_with (holding old pages) r left (start_fit pages start) (assumption (come))
       (there (change_of r) (change_within (volume_pages old) r come.stands_at.within) needs)

@@ -15,7 +15,7 @@ use Rattle.fuzzy_ckpt.specs.Steps.{Gathering, gather_step, pages_of, past_pages,
 use Rattle.engine_calls.specs.declared.event.Answer.TheVariants as answer
 use Rattle.engine_calls.specs.declared.event.Event.TheVariants as event
 use Rattle.engine_calls.specs.declared.refusal.Refusal.TheVariants.{LogFault}
-use Rattle.engine_rules.specs.EngineState.{EngineState, IsGathering, Outcome, appended}
+use Rattle.engine_rules.specs.EngineState.{EngineState, IsGathering, Outcome, with_appended}
 use Rattle.engine_rules.specs.EngineState.{ckpt_end_effect, closed, effect, end, gather_effect}
 use Rattle.engine_rules.specs.EngineState.{gathered_record, gathering, log_of, next_step}
 use Rattle.engine_rules.specs.Step.{Fails, ForcedPart}
@@ -122,7 +122,7 @@ with_txn s c o =
 
 pub takes_pages : (s : EngineState) (c : Checkpoint) (pages : DirtyPages) → open_checkpoint s.log ≡ Some c
     → FindsPages s c (Some pages)
-    → Does s c (Some (pages_record s c pages)) (more (appended s (pages_record s c pages)) pages_left)
+    → Does s c (Some (pages_record s c pages)) (more (with_appended s (pages_record s c pages)) pages_left)
 takes_pages s c pages still_open finds =
     does s c (with_pages s c (Some pages)) still_open
     (at_left s c pages_left finds.left ∙ ap (with_pages s c) finds.found)
@@ -133,7 +133,7 @@ passes_pages s c still_open finds =
     does s c (with_pages s c None) still_open (at_left s c pages_left finds.left ∙ ap (with_pages s c) finds.found)
 
 pub takes_txn : (s : EngineState) (c : Checkpoint) (t : ℕ) → open_checkpoint s.log ≡ Some c → FindsTxn s c (Some t)
-    → Does s c (Some (txn_entry s c t)) (more (appended s (txn_entry s c t)) txns_left)
+    → Does s c (Some (txn_entry s c t)) (more (with_appended s (txn_entry s c t)) txns_left)
 takes_txn s c t still_open finds =
     does s c (with_txn s c (Some t)) still_open (at_left s c txns_left finds.left ∙ ap (with_txn s c) finds.found)
 

@@ -25,7 +25,7 @@ use Rattle.engine_calls.specs.declared.refusal.Refusal.{Refusal}
 use Rattle.engine_calls.specs.declared.refusal.Refusal.TheVariants.{CommitUnsure, LogFault}
 use Rattle.engine_calls.specs.declared.refusal.Refusal.TheVariants.{OutOfMemory, StoreFault}
 use Rattle.engine_rules.specs.Accepted.{shown_call}
-use Rattle.engine_rules.specs.EngineState.{EngineState, IsFit, Outcome, appended, commit_record}
+use Rattle.engine_rules.specs.EngineState.{EngineState, IsFit, Outcome, with_appended, commit_record}
 use Rattle.engine_rules.specs.EngineState.{begun_write, ckpt_end_effect, closed, effect, end}
 use Rattle.engine_rules.specs.EngineState.{end_ckpt_record, end_record, ended_write, extend_record}
 use Rattle.engine_rules.specs.EngineState.{forced_through, forced_to, gathering, image_of, log_of}
@@ -138,7 +138,7 @@ pub data Moves (old : EngineState) (call : Event) (reply : Result Answer Refusal
   Adds : {pages : List Page} {new : EngineState} (r : Record) → Start old call pages → Makes old call r
       → IsNoGrowth call → IfSome (change_of r) (λ c. pages ≡ (with_page old c.page).resident)
       → shown_call call reply ≡ call_of old.log r
-      → Rest call reply (gathering (appended (holding old pages) r) (left_with old.left r)) new
+      → Rest call reply (gathering (with_appended (holding old pages) r) (left_with old.left r)) new
       → Moves old call reply new
   -- the open checkpoint is complete, and becomes the master
   Completes : (passes : CkptEnds old) → ¬ IsBeside call → ¬ LeavesMaster call reply
@@ -174,7 +174,7 @@ module _ (old : EngineState) (event : Event) (reply : Result Answer Refusal) whe
 undo_moves : (old : EngineState) (txn : ℕ) (reply : Answer) (o : Option PendingChange)
     → last_of (pending old.log txn) ≡ o → refusal old (event.UndoStep txn) ≡ None
     → Moves old (event.UndoStep txn) (Ok reply) (option_map_or (undid old txn) o
-    (record { answer = answer.Ended (end old); state = appended old (end_record old txn) })).state
+    (record { answer = answer.Ended (end old); state = with_appended old (end_record old txn) })).state
 undo_moves old txn reply None last none =
     Adds _ Here (MakesEnd txn (undo_passes old txn none) last) tt tt refl Done
 undo_moves old txn reply (Some p) last none =
@@ -242,7 +242,7 @@ answered old (event.Add txn page slot amount) answer none given =
 answered old (event.Read page slot) answer none given = Keeps (Fetched page none refl) refl Done
 answered old (event.Commit txn) answer none given =
     Adds _ Here (makes old (event.Commit txn) _ none refl) tt tt refl
-    (one (Forced _ (all_forces (appended old (commit_record old txn)))))
+    (one (Forced _ (all_forces (with_appended old (commit_record old txn)))))
 answered old (event.Abort txn) answer none given =
     Adds _ Here (makes old (event.Abort txn) _ none refl) tt tt refl Done
 answered old (event.UndoStep txn) answer none given = undo_moves old txn answer _ refl none

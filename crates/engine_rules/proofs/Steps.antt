@@ -9,7 +9,7 @@ use Rattle.engine_calls.specs.declared.event.Answer.{Answer}
 use Rattle.engine_calls.specs.declared.event.Event.{Event}
 use Rattle.engine_calls.specs.declared.refusal.Refusal.{Refusal}
 use Rattle.engine_rules.specs.Accepted.{shown_call}
-use Rattle.engine_rules.specs.EngineState.{EngineState, appended, closed, end_ckpt_record}
+use Rattle.engine_rules.specs.EngineState.{EngineState, with_appended, closed, end_ckpt_record}
 use Rattle.engine_rules.specs.EngineState.{extend_record}
 use Rattle.engine_rules.specs.Step.{Step}
 use Rattle.engine_rules.proofs.Forces.{EndsAtRecord, Forces, all_forces}
@@ -118,7 +118,7 @@ rest_forces event reply s t ends (Then (Forced lsn forces) rest) =
     (later.0, omega (arith, first.1, later.1))
 rest_forces event reply s t ends (Then other rest) = rest_forces event reply _ t ends rest
 
-longer : (s : EngineState) (r : Record) → EndsAtRecord s → EndsAtRecord (appended s r)
+longer : (s : EngineState) (r : Record) → EndsAtRecord s → EndsAtRecord (with_appended s r)
 longer s r (k, le, e) = (k, omega (arith, length_push s.log r), e)
 
 moves_force : (old : EngineState) (event : Event) (reply : Result Answer Refusal) (new : EngineState) → EndsAtRecord old

@@ -86,8 +86,8 @@ end s = lsn_of (length s.log)
 -- ---- what changes
 
 -- a record comes behind the log, and its change is made on the page, where that is in memory
-abbrev pub appended : EngineState → Record → EngineState
-appended s r = record s {
+abbrev pub with_appended : EngineState → Record → EngineState
+with_appended s r = record s {
   log = s.log ++ r ∷ [];
   resident = map (λ page. with_record page r) s.resident;
 }
@@ -248,7 +248,7 @@ point_of s c = record {
 
 -- it is closed by its EndChkpt, which need not be forced yet
 abbrev pub closed : EngineState → Checkpoint → EngineState
-closed s c = gathering (appended s (end_ckpt_record s c)) pages_left
+closed s c = gathering (with_appended s (end_ckpt_record s c)) pages_left
 
 -- ---- what an accepted call answers, and what stands after it
 
@@ -257,19 +257,19 @@ pub record Outcome : Type 0 where
   pub state : EngineState
 
 abbrev pub logged : EngineState → Record → Outcome
-logged s r = record { answer = answer.Logged (end s); state = appended s r }
+logged s r = record { answer = answer.Logged (end s); state = with_appended s r }
 
 -- a pending change is taken back, on its page in memory
 abbrev pub undid : EngineState → ℕ → PendingChange → Outcome
 undid s txn p = record {
   answer = answer.Undid (end s);
-  state = appended (with_page s p.page) (comp_record s txn p);
+  state = with_appended (with_page s p.page) (comp_record s txn p);
 }
 
 abbrev pub undo_effect : EngineState → ℕ → Outcome
 undo_effect s txn =
     option_map_or (undid s txn) (last_of (pending s.log txn))
-    (record { answer = answer.Ended (end s); state = appended s (end_record s txn) })
+    (record { answer = answer.Ended (end s); state = with_appended s (end_record s txn) })
 
 abbrev pub back_effect : EngineState → ℕ → ℕ → Outcome
 back_effect s txn at =
@@ -289,7 +289,7 @@ gather_effect s step =
     let left = left_of step.ckpt.phase in
     record {
       answer = if is_done left then answer.Done else answer.More;
-      state = gathering (option_map_or (appended s) step.next s) left;
+      state = gathering (option_map_or (with_appended s) step.next s) left;
     }
 
 abbrev pub ckpt_end_effect : EngineState → Checkpoint → Outcome
@@ -323,7 +323,7 @@ take_answer Kept page = answer.Kept
 abbrev pub effect : EngineState → Event → Outcome
 effect s event.Begin = record {
   answer = answer.Began (next_txn s) (end s);
-  state = appended s (log.Begin (end s) (next_txn s));
+  state = with_appended s (log.Begin (end s) (next_txn s));
 }
 effect s (event.Set txn page slot number) =
     logged (with_page s page)
@@ -336,7 +336,7 @@ effect s (event.Read page slot) = record {
 }
 effect s (event.Commit txn) = record {
   answer = answer.Logged (end s);
-  state = let after = appended s (commit_record s txn) in forced_to after (end after);
+  state = let after = with_appended s (commit_record s txn) in forced_to after (end after);
 }
 effect s (event.Abort txn) = logged s (abort_record s txn)
 effect s (event.UndoStep txn) = undo_effect s txn
@@ -353,7 +353,7 @@ effect s (event.WriteBegin page) = record {
 effect s (event.WriteEnd page) = write_end_effect s page
 effect s event.CkptBegin = record {
   answer = answer.Logged (end s);
-  state = gathering (appended s (begin_ckpt_record s)) pages_left;
+  state = gathering (with_appended s (begin_ckpt_record s)) pages_left;
 }
 effect s event.CkptGather = of_open s answer.Done (λ c. gather_effect s (next_step s c))
 effect s event.CkptEnd = of_open s (answer.Point 0 0 0) (ckpt_end_effect s)
@@ -379,7 +379,7 @@ effect s (event.Repair copy page) = record {
 }
 effect s (event.Extend count) = record {
   answer = answer.Logged (end s);
-  state = appended (grown s count) (extend_record s count);
+  state = with_appended (grown s count) (extend_record s count);
 }
 
 -- the master record of a complete checkpoint

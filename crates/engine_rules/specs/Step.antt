@@ -21,7 +21,7 @@ use Rattle.engine_calls.specs.declared.event.Undone.TheVariants as undone
 use Rattle.engine_calls.specs.declared.refusal.Refusal.{Refusal}
 use Rattle.engine_calls.specs.declared.refusal.Refusal.TheVariants.{CommitUnsure, LogFault}
 use Rattle.engine_calls.specs.declared.refusal.Refusal.TheVariants.{OutOfMemory, StoreFault}
-use Rattle.engine_rules.specs.EngineState.{EngineState, appended, closed, commit_record}
+use Rattle.engine_rules.specs.EngineState.{EngineState, with_appended, closed, commit_record}
 use Rattle.engine_rules.specs.EngineView.{EngineView}
 use Rattle.engine_rules.specs.EngineState.{Fetches, effect, end}
 use Rattle.engine_rules.specs.EngineState.{forced_to, gathered_record, image_of, log_of, page_now}
@@ -89,7 +89,7 @@ Fails old (event.WriteBegin page) LogFault new =
     ForcedPart (end_up_to (log_of old) (page_now old page).lsn) old new
 Fails old (event.WriteEnd page) StoreFault new = MayBeStored page old new
 Fails old (event.Commit txn) (CommitUnsure lsn) new =
-    let after = appended old (commit_record old txn) in
+    let after = with_appended old (commit_record old txn) in
     (lsn ≡ end old) × ForcedPart (end after) after new
 Fails old event.CkptEnd LogFault new =
     IsSomeAnd (open_checkpoint old.log)

@@ -13,7 +13,7 @@ use Rattle.log_records.specs.declared.limits.TheConstants.{MAX_RECORDS}
 use Rattle.log_rules.specs.Linked.{IsLinked}
 use Rattle.log_rules.proofs.Public.{number_of_volume}
 use Rattle.log_rules.specs.Transactions.{owed}
-use Rattle.loser_undo.specs.Recovery.{HasCommitted, IsRecovery, IsUndone, IsWhole, Recovery, appended, undone}
+use Rattle.loser_undo.specs.Recovery.{HasCommitted, IsRecovery, IsUndone, HasLogsPages, Recovery, appended, undone}
 use Rattle.loser_undo.specs.Undo.{LostChange, after_undo, comp_of, end_of, is_undone, lost_changes, spent, taken_back, with_comp, with_end}
 use Rattle.loser_undo.proofs.Valid.{log_comes_first, undo_closes, undo_is_linked, undone_fits, undone_number}
 use Rattle.log_records.proofs.Public.{count_behind-push}
@@ -53,14 +53,14 @@ undone_count log =
     sym (count_fold log.pages taken_back (count_taken_back log.pages) ended (lost_changes log.records)
     ∙ count_fold log.pages with_end (λ rs t. count_behind-push log.pages rs (end_of rs t)) log.records (spent log.records))
 
-pub undone_whole : (r : Recovery) → IsWhole r → IsWhole (undone r)
+pub undone_whole : (r : Recovery) → HasLogsPages r → HasLogsPages (undone r)
 undone_whole r whole =
     ap (map (λ page. image_from page (appended r.log))) whole
     ∙ redo_all-append r.log.records (appended r.log) (page_count r.log)
     ∙ ap (λ xs. redo_all xs (page_count r.log)) (log_and_appended r.log)
     ∙ ap (redo_all (after_undo r.log.records)) (undone_count r.log)
 
-pub undone_committed : (r : Recovery) → IsLog r.log → IsLinked r.log.records → IsWhole r
+pub undone_committed : (r : Recovery) → IsLog r.log → IsLinked r.log.records → HasLogsPages r
     → HasCommitted r.log.records (undone r).pages
 undone_committed r valid linked whole page slot d below within =
     let rs = after_undo r.log.records in

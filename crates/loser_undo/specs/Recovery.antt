@@ -50,8 +50,8 @@ pub record IsUndone (r : Recovery) : Type 0 where
   pub closed : open_in r.log.records ≡ []
 
 -- the pages are those that the log makes
-abbrev pub IsWhole : Recovery → Type 0
-IsWhole r = r.pages ≡ redo_all r.log.records (page_count r.log)
+abbrev pub HasLogsPages : Recovery → Type 0
+HasLogsPages r = r.pages ≡ redo_all r.log.records (page_count r.log)
 
 -- each slot of each page has the number that the committed transactions of these records leave
 abbrev pub HasCommitted : List Record → List Page → Type 0

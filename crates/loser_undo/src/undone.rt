@@ -4,7 +4,7 @@ ghost use Rattle.std.specs.Prelude.{◌≡◌, ◌↔◌, ◌+◌, ◌<◌, ◌�
 ghost use Rattle.log_records.specs.declared.limits.TheConstants.{MAX_RECORDS};
 ghost use Rattle.log_rules.specs.Transactions.{owed};
 ghost use Rattle.loser_undo.specs.declared.fault.UndoFault.TheVariants.{LogFull};
-ghost use Rattle.loser_undo.specs.Recovery.{HasCommitted, IsWhole, undone};
+ghost use Rattle.loser_undo.specs.Recovery.{HasCommitted, HasLogsPages, undone};
 
 use crate::fault::UndoFault;
 use crate::redone::Redone;
@@ -86,8 +86,8 @@ impl Undone {
 /// refused. Both come before the first record, and hand the log and its pages back.
 pub fn undo_all(redone: Redone) -> Result<Undone, (Redone, UndoFault)>
     ensures ok { IfOk result (λ it. it ≡ undone redone) }
-    ensures whole { IfOk result (λ it. IsWhole redone → IsWhole it) }
-    ensures committed { IfOk result (λ it. IsWhole redone
+    ensures whole { IfOk result (λ it. HasLogsPages redone → HasLogsPages it) }
+    ensures committed { IfOk result (λ it. HasLogsPages redone
         → HasCommitted redone.log.records it.pages) }
     ensures full { IsErrAnd result (λ e. e.1 ≡ LogFull)
         ↔ (MAX_RECORDS < length redone.log.records + owed redone.log.records) }

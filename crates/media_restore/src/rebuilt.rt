@@ -5,7 +5,7 @@ ghost use Rattle.std.specs.Prelude.{Some};
 ghost use Rattle.log_records.specs.Log.{IsPageCount, lsn_of};
 ghost use Rattle.copy_coverage.specs.Kept.{IsKeptOf};
 ghost use Rattle.copy_coverage.specs.Retired.{HasRoomForUndo};
-ghost use Rattle.loser_undo.specs.Recovery.{IsWhole};
+ghost use Rattle.loser_undo.specs.Recovery.{HasLogsPages};
 ghost use Rattle.engine_rules.specs.EngineView.{EngineView};
 ghost use Rattle.engine_rules.specs.Step.{IsByDevice, IsFaultReply};
 ghost use Rattle.engine_rules.specs.Storage.{FailsAtHeader, PlaysOn};
@@ -127,7 +127,7 @@ fn redo_copy(
     ensures kept { OnOk result
         (IsKeptOf retired.log retired.forced_end (kept_log retired.log cut)) }
     ensures room { IfOk result (λ it. HasRoomForUndo it.log.records) }
-    ensures whole { IfOk result (λ it. IsWhole it) }
+    ensures whole { IfOk result (λ it. HasLogsPages it) }
     ensures ok { OnOk result (load_refusal retired copy cut ≡ None) }
     ensures err { IfErr result (λ why. RestoreRefuses (load_refusal retired copy cut) why) }
 {
@@ -144,7 +144,7 @@ fn redo_copy(
 /// Undoes the transactions that are open at the end of a log that has room for that.
 fn undo(redone: Redone) -> Result<Undone, Refused>
     requires room { HasRoomForUndo redone.log.records }
-    requires whole { IsWhole redone }
+    requires whole { HasLogsPages redone }
     ensures master { IfOk result (λ it. it.master ≡ redone.master) }
     ensures restored { IfOk result (λ it. IsRestored redone.log it) }
     ensures err { IfErr result (λ why. RestoreRefuses None why) }

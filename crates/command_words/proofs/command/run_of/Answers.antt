@@ -1,14 +1,14 @@
 use Rattle.std.proofs.Common.{ap, codes, subst, ◌∙◌}
 use Rattle.clap.specs.Words.{found_of, first_of, one_of}
 use Rattle.clap.proofs.WalkLemmas.{first_value-rows, one_text-rows}
-use Rattle.command_words.specs.Command.{IsFlag, IsFramesRead, IsRead}
+use Rattle.command_words.specs.Command.{IsFlag, IsFramesRead, IsNumberRead}
 use Rattle.command_words.proofs.command.run_of.Goals as goal
 
 pub returns-clause-ok : goal.returns-clause-ok
 returns-clause-ok g c =
     let rows = c.in_ok-matches.ensures.rows in (
       (c.requires, c.in_ok-matches.ensures.taken),
-      subst (λ found. IsRead (one_of (codes "pages") found) c.pages_in-pages.result) rows c.pages_in-pages.ensures.read,
+      subst (λ found. IsNumberRead (one_of (codes "pages") found) c.pages_in-pages.result) rows c.pages_in-pages.ensures.read,
       subst (λ found. IsFramesRead (one_of (codes "frames") found) c.frames_in-frames.result) rows
           c.frames_in-frames.ensures.read,
       c.get_str-save.ensures ∙ (first_value-rows (found_of c.in_ok-matches.matches) (codes "save")

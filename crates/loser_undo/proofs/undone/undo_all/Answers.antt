@@ -5,7 +5,7 @@ use Rattle.log_records.specs.declared.limits.TheConstants.{MAX_RECORDS}
 use Rattle.log_records.specs.declared.record.Record.{Record}
 use Rattle.log_rules.specs.Table.{TxnEntry, owed_by_entry}
 use Rattle.log_rules.specs.Transactions.{owed}
-use Rattle.loser_undo.specs.Recovery.{HasCommitted, IsRedone, IsUndone, IsWhole, Recovery, undone}
+use Rattle.loser_undo.specs.Recovery.{HasCommitted, IsRedone, IsUndone, HasLogsPages, Recovery, undone}
 use Rattle.loser_undo.specs.UndoSink.{HasAppended, HasRedone, MayBeUndone}
 use Rattle.loser_undo.proofs.Held.{owed_of}
 use Rattle.loser_undo.proofs.Pages.{log_and_appended, same_parts, undone_closed, undone_committed, undone_whole}
@@ -68,7 +68,7 @@ pub returns-clause-ok : goal.returns-clause-ok
 returns-clause-ok c = made c
 
 pub returns-clause-whole : goal.returns-clause-whole
-returns-clause-whole c = λ whole. subst IsWhole (sym (made c)) (undone_whole c.args.redone whole)
+returns-clause-whole c = λ whole. subst HasLogsPages (sym (made c)) (undone_whole c.args.redone whole)
 
 pub returns-clause-committed : goal.returns-clause-committed
 returns-clause-committed c = λ whole.

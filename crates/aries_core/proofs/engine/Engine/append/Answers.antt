@@ -6,7 +6,7 @@ use Rattle.log_records.proofs.Public.{transaction_gives_none}
 use Rattle.log_records.specs.Log.{Log, StandsAt, lsn_of}
 use Rattle.log_records.specs.Log.{page_count}
 use Rattle.engine_rules.specs.Call.{Calls}
-use Rattle.engine_rules.specs.EngineState.{EngineState, appended, log_of}
+use Rattle.engine_rules.specs.EngineState.{EngineState, with_appended, log_of}
 use Rattle.engine_rules.specs.EngineView.{EngineView, IsConsistent, engine_view}
 use Rattle.aries_core.specs.OpenCkpt.{media_view}
 use Rattle.aries_core.proofs.Appends.{appended_is, kept_next, valid_with}
@@ -95,7 +95,7 @@ change-requires-clause-resident g c =
 state_after : (g : given.Over) (c : goal.After-change g)
     → (engine_view g.S.PageStore.stored c.append.new.self c.change.new.self
     (media_view c.self.inside.master c.self.inside.session c.self.inside.vault.copies c.self.inside.returns.made)).state
-    ≡ appended (engine_view g.S.PageStore.stored c.self.inside.log c.self.inside.pool
+    ≡ with_appended (engine_view g.S.PageStore.stored c.self.inside.log c.self.inside.pool
     (media_view c.self.inside.master c.self.inside.session c.self.inside.vault.copies c.self.inside.returns.made)).state
     c.args.next
 state_after g c =
@@ -141,4 +141,4 @@ returns-clause-ok g c =
     subst (λ (v : EngineView g.row.S.Denot g.row.D.Denot).
     (engine_view g.S.PageStore.stored c.append.new.self c.change.new.self
     (media_view c.self.inside.master c.self.inside.session c.self.inside.vault.copies c.self.inside.returns.made)).state
-    ≡ appended v.state c.args.next) c.self.view_is (state_after g c)
+    ≡ with_appended v.state c.args.next) c.self.view_is (state_after g c)

@@ -2,7 +2,7 @@ use Rattle.std.proofs.Common.{◌≡◌, ◌<◌, length, sym, ap, subst, ◌∙
 use Rattle.log_records.specs.Log.{Log, StandsAt, lsn_of}
 use Rattle.log_records.specs.Log.{page_count}
 use Rattle.engine_rules.specs.Call.{Calls}
-use Rattle.engine_rules.specs.EngineState.{EngineState, appended, log_of, with_page}
+use Rattle.engine_rules.specs.EngineState.{EngineState, with_appended, log_of, with_page}
 use Rattle.engine_rules.specs.EngineView.{EngineView, engine_view}
 use Rattle.engine_rules.specs.EngineState.{volume_pages}
 use Rattle.aries_core.specs.OpenCkpt.{media_view}
@@ -97,7 +97,7 @@ came g c =
 grown : (g : given.Over) (c : goal.After-change g)
     → (engine_view g.S.PageStore.stored c.append.new.self c.change.new.self
     (media_view c.self.inside.master c.self.inside.session c.self.inside.vault.copies c.self.inside.returns.made)).state
-    ≡ appended (engine_view g.S.PageStore.stored c.self.inside.log c.bring_into.new.pool
+    ≡ with_appended (engine_view g.S.PageStore.stored c.self.inside.log c.bring_into.new.pool
     (media_view c.self.inside.master c.self.inside.session c.self.inside.vault.copies c.self.inside.returns.made)).state
     c.args.next
 grown g c =
@@ -137,5 +137,5 @@ returns-clause-ok g c =
     subst (λ (v : EngineView g.row.S.Denot g.row.D.Denot).
     (engine_view g.S.PageStore.stored c.append.new.self c.change.new.self
     (media_view c.self.inside.master c.self.inside.session c.self.inside.vault.copies c.self.inside.returns.made)).state
-    ≡ appended (with_page v.state c.args.page) c.args.next) c.self.view_is
-    (grown g c ∙ ap (λ (t : EngineState). appended t c.args.next) (came g c))
+    ≡ with_appended (with_page v.state c.args.page) c.args.next) c.self.view_is
+    (grown g c ∙ ap (λ (t : EngineState). with_appended t c.args.next) (came g c))

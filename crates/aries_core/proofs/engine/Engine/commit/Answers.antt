@@ -1,7 +1,7 @@
 use Rattle.std.proofs.Common.{◌≡◌, refl, ap, arith, ◌∙◌}
 use Rattle.engine_calls.specs.declared.event.Event.TheVariants as event
 use Rattle.log_records.specs.declared.record.Record.{Record}
-use Rattle.engine_rules.specs.EngineState.{EngineState, appended, end}
+use Rattle.engine_rules.specs.EngineState.{EngineState, with_appended, end}
 use Rattle.engine_rules.specs.EngineView.{EngineView}
 use Rattle.engine_calls.specs.declared.refusal.Refusal.TheVariants.{CommitUnsure}
 use Rattle.aries_core.proofs.Uses.{force_failed, was_forced}
@@ -21,7 +21,7 @@ append-requires-clause-called g c =
     }
 
 -- the Commit is appended in memory, so the forced end and the device are as before
-same_end : {S D : Type 0} (old mid : EngineView S D) (r : Record) → mid.state ≡ appended old.state r
+same_end : {S D : Type 0} (old mid : EngineView S D) (r : Record) → mid.state ≡ with_appended old.state r
     → mid.state.forced_end ≡ old.state.forced_end
 same_end old mid r is = ap (λ (s : EngineState). s.forced_end) is
 

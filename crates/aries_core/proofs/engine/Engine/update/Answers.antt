@@ -4,7 +4,7 @@ use Rattle.log_records.specs.declared.record.Record.TheVariants.{Update}
 use Rattle.log_records.specs.Image.{image}
 use Rattle.log_records.specs.Log.{Log, StandsAt, lsn_of, page_count}
 use Rattle.txn_table.specs.TxnTable.{IsTableOf}
-use Rattle.engine_rules.specs.EngineState.{EngineState, appended, end, log_of, volume_pages, with_page}
+use Rattle.engine_rules.specs.EngineState.{EngineState, with_appended, end, log_of, volume_pages, with_page}
 use Rattle.engine_rules.specs.EngineView.{EngineView, engine_view}
 use Rattle.engine_rules.proofs.Public.{comes_few, slot_passes}
 use Rattle.aries_core.specs.Fetching.{with_before}
@@ -129,7 +129,7 @@ came g c =
 grown : (g : given.Over) (c : goal.After-change g)
     → (engine_view g.S.PageStore.stored c.append.new.self c.change.new.self
     (media_view c.self.inside.master c.self.inside.session c.self.inside.vault.copies c.self.inside.returns.made)).state
-    ≡ appended (engine_view g.S.PageStore.stored c.self.inside.log c.bring_into.new.pool
+    ≡ with_appended (engine_view g.S.PageStore.stored c.self.inside.log c.bring_into.new.pool
     (media_view c.self.inside.master c.self.inside.session c.self.inside.vault.copies c.self.inside.returns.made)).state
     (Update c.end-lsn.result c.args.txn c.args.prev c.args.page c.args.slot c.with_number.result)
 grown g c =
@@ -184,9 +184,9 @@ returns-clause-ok g c =
     (ap (λ (q : Page). get_or q.slots c.slot.inside.0 0) (c.current.ensures.image (log_of s) of_log)
     ∙ ap (λ (n : ℕ). get_or (image s.log c.args.page).slots n 0) c.slot.view_is) in (
       place ∙ ap end same,
-      grown g c ∙ ap (λ (t : EngineState). appended t next) (came g c)
-          ∙ ap (λ (t : EngineState). appended (with_page t c.args.page) next) same
-          ∙ ap (appended (with_page c.args.self.now.state c.args.page))
+      grown g c ∙ ap (λ (t : EngineState). with_appended t next) (came g c)
+          ∙ ap (λ (t : EngineState). with_appended (with_page t c.args.page) next) same
+          ∙ ap (with_appended (with_page c.args.self.now.state c.args.page))
           (update_is c.args.self.now.state s same c.args.txn c.args.prev c.args.page c.args.slot c.end-lsn.result
           c.args.change c.with_number.result c.requires.last place number),
     )
