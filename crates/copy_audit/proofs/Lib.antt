@@ -1,10 +1,14 @@
+pub mod AtPlaces
 pub mod Audits
 pub mod ByLsn
+pub mod Counted
 pub mod Founds
-pub mod Linked
 pub mod Looks
 pub mod OnPage
+pub mod Parts
+pub mod Placing
 pub mod Public
 pub mod Rowwise
+pub mod Starts
 pub mod Tells
 pub mod Traces

@@ -27,8 +27,8 @@ use Rattle.page_redo.specs.Placed.{Placed, placed_at, placed_by, placed_in, redo
 use Rattle.page_redo.specs.PageRecords.{first_numbers_on, is_on, number_is_on, numbers_on}
 use Rattle.page_redo.proofs.Public.{numbers_more}
 use Rattle.copy_audit.specs.Changes.{AreChangesOf, IsKeptOf}
-use Rattle.copy_audit.specs.Links.{at_places, on_page, places_on}
-use Rattle.copy_audit.proofs.Linked.{all_on_page}
+use Rattle.copy_audit.specs.Places.{at_places, on_page, places_on}
+use Rattle.copy_audit.proofs.AtPlaces.{all_on_page}
 use Rattle.copy_audit.proofs.Traces.{all_below, changes_there}
 
 -- ---- what was kept of one record

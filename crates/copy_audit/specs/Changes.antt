@@ -4,7 +4,7 @@ use Rattle.log_records.specs.declared.record.Record.{Record}
 use Rattle.log_records.specs.Log.{IsLog, Log}
 use Rattle.loser_undo.specs.Kept.{Kept, kept_of}
 use Rattle.page_redo.specs.Placed.{Placed, placed_in}
-use Rattle.copy_audit.specs.Links.{on_page}
+use Rattle.copy_audit.specs.Places.{on_page}
 
 -- this was kept of the log
 pub record IsKeptOf (log : Log) (kept : Kept) : Type 0 where

@@ -3,7 +3,7 @@ pub mod AuditFault
 pub mod Audited
 pub mod ByLsn
 pub mod Changes
-pub mod Links
+pub mod Places
 pub mod Rows
 pub mod Told
 pub mod Trace

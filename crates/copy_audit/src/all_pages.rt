@@ -15,7 +15,7 @@ ghost use Rattle.copy_audit.specs.Told.{AreFirstOf, AreToldOf, HasTold, IsTold};
 
 use crate::chain_audit::{places, points_of};
 use crate::members::first_unsound;
-use crate::page_links::PageLinks;
+use crate::page_places::PagePlaces;
 use crate::unsound::Unsound;
 use copy_vault::{ChainReadFault, ChainReader, CopyId};
 use loser_undo::{LogChanges, read_changes};
@@ -88,7 +88,7 @@ fn pages_in<A: Read>(
         (map (λ a. A.remaining a) archives.old) (map (λ a. A.remaining a) archives.new) why) }
 {
     let mut chain = ChainReader::new(alloc, archives, log.counts(), log.end())?;
-    let changes = PageLinks::new(alloc, log.changes(), log.counts().last())?;
+    let changes = PagePlaces::new(alloc, log.changes(), log.counts().last())?;
     let points = points_of(alloc, &chain, archives.len())?;
     let mut row = places(alloc, archives.len())?;
     let mut on_page = Vec::new(alloc);

@@ -16,7 +16,7 @@ ghost use Rattle.copy_audit.specs.Rows.{AreFound};
 
 use crate::found::Found;
 use crate::members::first_unsound;
-use crate::page_links::PageLinks;
+use crate::page_places::PagePlaces;
 use crate::unsound::Unsound;
 use copy_vault::{ChainReadFault, ChainReader};
 use loser_undo::{LogChanges, read_changes};
@@ -42,8 +42,8 @@ pub struct Sound;
 /// memory is refused. `ReadFault` comes where a reader fails or does not come to an end, and what
 /// it gave holds no fault.
 ///
-/// No record of the log is kept, but of each change 16 bytes, 4 bytes that link it to the next
-/// change of its page, and 4 bytes a page of the volume. The archives are read side by side, in one
+/// No record of the log is kept, but of each change 16 bytes, 4 bytes for its place among the
+/// changes of its page, and 4 bytes a page of the volume. The archives are read side by side, in one
 /// pass. Of each just the redo point and one page are kept, beside the changes of that page, in
 /// their order, and a copy of it. Each change is redone once on its page, and at most twice where
 /// an archive has an older page than one before it in the chain: these pages are looked at in the
@@ -89,7 +89,7 @@ fn first_in<A: Read>(
         (map (λ a. A.remaining a) archives.new)) }
 {
     let mut chain = ChainReader::new(alloc, archives, log.counts(), log.end())?;
-    let changes = PageLinks::new(alloc, log.changes(), log.counts().last())?;
+    let changes = PagePlaces::new(alloc, log.changes(), log.counts().last())?;
     let points = points_of(alloc, &chain, archives.len())?;
     let mut row = places(alloc, archives.len())?;
     let mut on_page = Vec::new(alloc);

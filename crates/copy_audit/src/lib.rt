@@ -9,7 +9,7 @@ mod found;
 mod laws;
 mod members;
 mod page_audit;
-mod page_links;
+mod page_places;
 mod reach;
 mod trace;
 mod unsound;

@@ -12,7 +12,7 @@ use Rattle.page_redo.specs.Placed.{Placed}
 use Rattle.copy_archives.specs.ChainEach.{IsReadingEach, place_list}
 use Rattle.copy_archives.specs.ChainReading.{IsStopped}
 use Rattle.copy_audit.specs.Changes.{AreChangesOf, IsKeptOf}
-use Rattle.copy_audit.specs.Links.{places_on}
+use Rattle.copy_audit.specs.Places.{places_on}
 use Rattle.copy_audit.proofs.OnPage.{few_kept, listed_of}
 use Rattle.copy_audit.proofs.Rowwise.{HasListed, all_listed, listed_below, listed_more, listed_none}
 use Rattle.copy_audit.proofs.all_pages.pages_in.Goals as goal

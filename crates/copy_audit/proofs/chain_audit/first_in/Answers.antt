@@ -12,7 +12,7 @@ use Rattle.page_redo.specs.Placed.{Placed}
 use Rattle.copy_archives.specs.ChainEach.{IsReadingEach, place_list}
 use Rattle.copy_archives.specs.ChainReading.{IsStopped}
 use Rattle.copy_audit.specs.Changes.{AreChangesOf, IsKeptOf}
-use Rattle.copy_audit.specs.Links.{places_on}
+use Rattle.copy_audit.specs.Places.{places_on}
 use Rattle.copy_audit.proofs.OnPage.{few_kept, listed_of}
 use Rattle.copy_audit.specs.Rows.{AreFound}
 use Rattle.copy_audit.proofs.Looks.{HasLooked, all_looked, looked_more, looked_none, next_below}
