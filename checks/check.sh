@@ -236,13 +236,13 @@ check_refused "error: no command" redo "$call"
 for word in help --help -h; do
     check_refused "Usage: " restore "$call" "$word"
 done
-check_refused "error: unrecognized" "'verify'" "$call" verify
-! grep -q "a similar command" "$work/err" || fail "the words 'verify': a similar command is named"
-for pair in ru/run rerun/run resotre/restore reed/redo audt/audit hlep/help opne/open; do
+check_refused "error: unrecognized" "'inspect'" "$call" inspect
+! grep -q "a similar command" "$work/err" || fail "the words 'inspect': a similar command is named"
+for pair in ru/run rerun/run resotre/restore reed/redo audt/audit hlep/help opne/open bakcup/backup verfy/verify renw/renew; do
     check_refused "error: unrecognized" "'${pair%/*}'" "a similar command exists: '${pair#*/}'" "${pair%/*}"
     check_refused "error: unrecognized" "'${pair%/*}'" "a similar command exists: '${pair#*/}'" help "${pair%/*}"
 done
-for command in redo run open restore audit; do
+for command in redo run open backup restore audit verify show list renew; do
     check_words "$command" --help
     cp "$work/err" "$work/wanted.err"
     for rest in "" extra; do
@@ -298,6 +298,26 @@ audit='Usage: imgcopy audit'
 check_refused "error: " "<LOG>" "$audit" audit
 check_refused "error: " "'--log'" "$audit" audit --log=log
 check_refused Check ARCHIVE "$audit" audit -h
+backup='Usage: imgcopy backup'
+for word in --on --full --into; do
+    check_refused Make "$word" "$backup" backup --help
+done
+check_refused "error: " "<FOLDER>" "$backup" backup
+for copy in --on=0 --on=4294967296 --on=x --on=; do
+    check_refused "error: " "--on <N>" --help backup folder "$copy"
+done
+check_refused "error: " "'extra'" "$backup" backup folder extra
+check_refused "error: " "--into <DIR>" --help backup folder --into
+verify='Usage: imgcopy verify'
+check_refused Check FOLDER "$verify" verify -h
+check_refused "error: " "<FOLDER>" "$verify" verify
+check_refused "error: " "'extra'" "$verify" verify folder extra
+check_refused "error: " "'--json'" "$verify" verify folder --json
+renew='Usage: imgcopy renew'
+check_refused Make NEW "$renew" renew -h
+check_refused "error: " "<OLD>" "$renew" renew
+check_refused "error: " "<NEW>" "$renew" renew old
+check_refused "error: " "'extra'" "$renew" renew old new extra
 check_commands
 check_audits
 check_lines

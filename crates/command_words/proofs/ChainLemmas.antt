@@ -16,7 +16,8 @@ use Rattle.clap.specs.declared.builder.value_parser.ValueParser.TheVariants.{Sig
 use Rattle.clap.specs.declared.parser.matches.ArgMatches.{ArgMatches}
 use Rattle.clap.proofs.CallerLemmas.{added_plain}
 use Rattle.clap.proofs.CallerReads.{required_reads}
-use Rattle.command_words.specs.Command.{IsMadeOf, PassesCount, PassesIn, count_parser}
+use Rattle.command_words.specs.Arguments.{IsMadeOf, PassesCount, PassesIn}
+use Rattle.command_words.specs.Command.{count_parser}
 use Rattle.command_words.proofs.OptionalLemmas.{passed_if_given}
 use Rattle.command_words.proofs.RequiredLemmas.{same_length}
 

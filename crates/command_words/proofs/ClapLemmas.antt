@@ -12,8 +12,10 @@ use Rattle.clap.specs.declared.error.Error.{Error}
 use Rattle.clap.specs.declared.error.kind.ErrorKind.TheVariants as kind
 use Rattle.clap.proofs.CallerReads.{signed_reads}
 use Rattle.clap.proofs.OnLiterals.{clap_on_literals}
-use Rattle.command_words.specs.Command.{ExplainsRead, IsFramesRead, IsNumberRead, Names, PassesFrames, apps, audit_app}
-use Rattle.command_words.specs.Command.{list_app, open_app, redo_into_app, restore_app, run_app, show_app}
+use Rattle.command_words.specs.Arguments.{PassesFrames}
+use Rattle.command_words.specs.Command.{ExplainsRead, IsFramesRead, IsNumberRead, Names, apps, audit_app}
+use Rattle.command_words.specs.Command.{backup_app, list_app, open_app, redo_into_app, renew_app, restore_app, run_app}
+use Rattle.command_words.specs.Command.{show_app, verify_app}
 use Rattle.command_words.specs.declared.command.UsageFault.{UsageFault}
 use Rattle.command_words.specs.declared.command.UsageFault.TheVariants.{BadArguments, OutOfMemory}
 
@@ -129,3 +131,15 @@ help_of_show = refl
 pub help_of_list : fault_of list_app (codes "list" ∷ codes "--help" ∷ []) ≡ kind.DisplayHelp ∷ []
 unfolding clap_on_literals
 help_of_list = refl
+
+pub help_of_backup : fault_of backup_app (codes "backup" ∷ codes "--help" ∷ []) ≡ kind.DisplayHelp ∷ []
+unfolding clap_on_literals
+help_of_backup = refl
+
+pub help_of_verify : fault_of verify_app (codes "verify" ∷ codes "--help" ∷ []) ≡ kind.DisplayHelp ∷ []
+unfolding clap_on_literals
+help_of_verify = refl
+
+pub help_of_renew : fault_of renew_app (codes "renew" ∷ codes "--help" ∷ []) ≡ kind.DisplayHelp ∷ []
+unfolding clap_on_literals
+help_of_renew = refl

@@ -1,5 +1,6 @@
 mod ChainLemmas
 mod ClapLemmas
+mod FolderLemmas
 mod NameLemmas
 mod NearestLemmas
 mod OpenLemmas

@@ -1,6 +1,6 @@
 -- Which name is nearest, found by one name after another.
 use Rattle.std.proofs.Common.{◌≡◌, ◌≤◌, ◌<◌, ◌+◌, ℕ, Option, MatchOption, Some, None, ap, arith, below_more, codes, get_or, length}
-use Rattle.std.proofs.Common.{◌∷◌, [], refl, subst, suc, sym, zero}
+use Rattle.std.proofs.Common.{◌∷◌, [], List, map, refl, subst, suc, sym, zero}
 use Rattle.std.specs.List.{Any}
 use Rattle.clap.specs.Words.{Text}
 use Rattle.command_words.specs.Command.{IsFar, IsNear, edits, names}
@@ -32,21 +32,16 @@ more_than_two least far is le = omega arith
 below : (k five count : ℕ) → k < five → five ≤ count → k < count
 below k five count lt le = omega arith
 
--- the names behind eight references, by their places
-pub named_at : {X : Type 0} (now : X → Text) (a b c d e f g h x : X) (i : ℕ)
-    → now a ≡ codes "redo" → now b ≡ codes "run" → now c ≡ codes "open" → now d ≡ codes "restore"
-    → now e ≡ codes "audit" → now f ≡ codes "show" → now g ≡ codes "list" → now h ≡ codes "help"
-    → i < 8 → (other : Text) → get_or names i other ≡ now (get_or (a ∷ b ∷ c ∷ d ∷ e ∷ f ∷ g ∷ h ∷ []) i x)
-named_at now a b c d e f g h x zero is-a is-b is-c is-d is-e is-f is-g is-h lt other = sym is-a
-named_at now a b c d e f g h x (suc zero) is-a is-b is-c is-d is-e is-f is-g is-h lt other = sym is-b
-named_at now a b c d e f g h x (suc (suc zero)) is-a is-b is-c is-d is-e is-f is-g is-h lt other = sym is-c
-named_at now a b c d e f g h x (suc (suc (suc zero))) is-a is-b is-c is-d is-e is-f is-g is-h lt other = sym is-d
-named_at now a b c d e f g h x (suc (suc (suc (suc zero)))) is-a is-b is-c is-d is-e is-f is-g is-h lt other = sym is-e
-named_at now a b c d e f g h x (suc (suc (suc (suc (suc zero))))) is-a is-b is-c is-d is-e is-f is-g is-h lt other = sym is-f
-named_at now a b c d e f g h x (suc (suc (suc (suc (suc (suc zero)))))) is-a is-b is-c is-d is-e is-f is-g is-h lt other = sym is-g
-named_at now a b c d e f g h x (suc (suc (suc (suc (suc (suc (suc zero))))))) is-a is-b is-c is-d is-e is-f is-g is-h lt other = sym is-h
-named_at now a b c d e f g h x (suc (suc (suc (suc (suc (suc (suc (suc i)))))))) is-a is-b is-c is-d is-e is-f is-g is-h lt other =
-    absurd (omega arith)
+at_place : {X : Type 0} (now : X → Text) (xs : List X) (x : X) (i : ℕ) → i < length xs → (other : Text)
+    → get_or (map now xs) i other ≡ now (get_or xs i x)
+at_place now [] x i lt other = absurd (omega arith)
+at_place now (a ∷ xs) x zero lt other = refl
+at_place now (a ∷ xs) x (suc i) lt other = at_place now xs x i (omega arith) other
+
+-- the names behind references, by their places
+pub named_at : {X : Type 0} (now : X → Text) (xs : List X) (x : X) (i : ℕ) → map now xs ≡ names → i < length xs
+    → (other : Text) → get_or names i other ≡ now (get_or xs i x)
+named_at now xs x i are lt other = subst (λ ns. get_or ns i other ≡ now (get_or xs i x)) are (at_place now xs x i lt other)
 
 -- a name that is nearer than those before it
 pub nearer : {X : Type 0} (now : X → Text) (word : Text) (best new : Option X) (least now_least count far : ℕ) (name : X)

@@ -11,7 +11,8 @@ use Rattle.clap.specs.declared.parser.matches.ArgMatches.{ArgMatches}
 use Rattle.clap.specs.declared.parser.matches.Found.{Found}
 use Rattle.clap.proofs.CallerLemmas.{required_in_chain}
 use Rattle.clap.proofs.CallerReads.{signed_reads}
-use Rattle.command_words.specs.Command.{AsksForFolder, IsTold, PassesCount, PassesFrames, PassesToldPages}
+use Rattle.command_words.specs.Arguments.{AsksForFolder, PassesCount, PassesFrames, PassesToldPages}
+use Rattle.command_words.specs.Command.{IsTold}
 use Rattle.command_words.proofs.ChainLemmas.{none_apart, number_in_chain, one_more_apart}
 use Rattle.command_words.proofs.ClapLemmas.{is_read}
 

@@ -22,7 +22,7 @@ use Rattle.clap.specs.declared.parser.matches.Found.{Found}
 use Rattle.clap.specs.declared.parser.matches.MatchedArg.{MatchedArg}
 use Rattle.clap.proofs.CallerLemmas.{entry_by_id, same_rules_by_id}
 use Rattle.clap.specs.declared.builder.value_parser.ValueParser.TheVariants.{Signed}
-use Rattle.command_words.specs.Command.{PassesIn}
+use Rattle.command_words.specs.Arguments.{PassesIn}
 
 -- what an entry says of its first value, where the arguments of its id read and take numbers in bounds
 of_entry : (low high : ℕ) (built : Parser) (found : Found) (id : List ℕ) (x : MatchedArg) (e : Entry) → groups_of built ≡ []

@@ -18,10 +18,8 @@ use Rattle.clap.specs.Faults.{bundle_fault, bundle_step_fault, flag_word_fault, 
 use Rattle.clap.specs.Faults.{step_fault}
 use Rattle.clap.specs.declared.error.kind.ErrorKind.{ErrorKind}
 use Rattle.clap.proofs.OnLiterals.{clap_on_literals}
-use Rattle.command_words.specs.Command.{Gives, IsRedo, IsTaken, Names, audit_app, open_app, redo_app, redo_into_app}
-use Rattle.command_words.specs.Command.{list_app, restore_app, show_app}
-use Rattle.command_words.specs.Command.{run_app}
-use Rattle.command_words.proofs.NameLemmas.{other_letters, same_name, taken_among}
+use Rattle.command_words.specs.Command.{Gives, IsRedo, IsTaken, Names, redo_app, redo_into_app}
+use Rattle.command_words.proofs.NameLemmas.{taken_by_name}
 use Rattle.command_words.specs.declared.command.Command.{Command}
 use Rattle.command_words.specs.declared.command.Command.TheVariants.{Redo}
 use Rattle.command_words.specs.declared.command.UsageFault.{UsageFault}
@@ -166,28 +164,11 @@ only_for_redo words (Err fault) given = tt
 -- words of `redo` that name an output are taken for that alone
 pub taken_redo_into : (words : List Text) → Names words redo_into_app → (IsRedo words → ⊥) → IsTaken words
     → fault_of redo_into_app words ≡ []
-taken_redo_into words named other taken = elim (taken_among words taken) [
-  | inl by ↦ absurd (other (redo_words words by.0 by.1))
-  | inr by ↦ elim by [
-    | inl it ↦ absurd (let e : 4 ≡ 3 = same_name words redo_into_app run_app named it.0 in omega arith)
-    | inr it ↦ elim it [
-      | inl one ↦ absurd (let e : 4 ≡ 7 = same_name words redo_into_app restore_app named one.0 in omega arith)
-      | inr one ↦ elim one [
-        | inl last ↦ absurd (let e : 4 ≡ 5 = same_name words redo_into_app audit_app named last.0 in omega arith)
-        | inr last ↦ elim last [
-          | inl into ↦ into.1
-          | inr other ↦ elim other [
-            | inl into ↦ absurd (other_letters words redo_into_app open_app named into.0 (λ e. let it : 114 ≡ 111 = e in omega arith))
-            | inr other ↦ elim other [
-              | inl view ↦ absurd (other_letters words redo_into_app show_app named view.0 (λ e. let it : 114 ≡ 115 = e in omega arith))
-              | inr view ↦ absurd (other_letters words redo_into_app list_app named view.0 (λ e. let it : 114 ≡ 108 = e in omega arith))
-            ]
-          ]
-        ]
-      ]
+taken_redo_into words named other taken =
+    elim (taken_by_name words (codes "redo") (redo_app ∷ redo_into_app ∷ []) refl named taken) [
+      | inl by ↦ absurd (other (redo_words words by.0 by.1))
+      | inr by ↦ elim by [ inl into ↦ into.1 | inr none ↦ absurd none ]
     ]
-  ]
-]
 
 -- `redo` alone is taken
 pub taken_redo : (words : List Text) → IsRedo words → IsTaken words → fault_of redo_app words ≡ []

@@ -12,7 +12,8 @@ use Rattle.clap.specs.declared.builder.command.Command.{Command as Parser}
 use Rattle.clap.specs.declared.builder.command.Command.TheViews.{out-Command as fields_of}
 use Rattle.clap.specs.declared.parser.matches.ArgMatches.{ArgMatches}
 use Rattle.clap.proofs.CallerLemmas.{required_in_chain}
-use Rattle.command_words.specs.Command.{AsksForLog, IsMadeOf, all_rule, archive_rule, audited_master_rule, log_rule}
+use Rattle.command_words.specs.Arguments.{AsksForLog, IsMadeOf}
+use Rattle.command_words.specs.Command.{all_rule, archive_rule, audited_master_rule, log_rule}
 
 -- a command with one more argument, as clap reads it
 pub app_with : (old new : Parser) (a : Arg) (app : App) (rule : Rule) → AddsArg old a new → a.global ≡ false

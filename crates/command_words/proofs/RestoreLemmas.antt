@@ -6,7 +6,7 @@ use Rattle.clap.specs.declared.builder.arg.Arg.{Arg}
 use Rattle.clap.specs.declared.builder.command.Command.{Command as Parser}
 use Rattle.clap.specs.declared.parser.matches.ArgMatches.{ArgMatches}
 use Rattle.clap.proofs.CallerLemmas.{required_in_chain}
-use Rattle.command_words.specs.Command.{AsksForFiles}
+use Rattle.command_words.specs.Arguments.{AsksForFiles}
 use Rattle.command_words.proofs.ChainLemmas.{none_apart, one_more_apart}
 
 abbrev asked : (cmd : Parser) → AsksForFiles cmd → List Arg

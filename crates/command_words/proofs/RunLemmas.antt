@@ -6,7 +6,8 @@ use Rattle.clap.specs.declared.builder.arg.Arg.{Arg}
 use Rattle.clap.specs.declared.builder.command.Command.{Command as Parser}
 use Rattle.clap.specs.declared.parser.matches.ArgMatches.{ArgMatches}
 use Rattle.clap.proofs.CallerLemmas.{required_in_chain}
-use Rattle.command_words.specs.Command.{AsksForOutput, AsksForPages, PassesCount, PassesFrames, PassesPages}
+use Rattle.command_words.specs.Arguments.{AsksForOutput, AsksForPages, PassesCount, PassesFrames}
+use Rattle.command_words.specs.Arguments.{PassesPages}
 use Rattle.command_words.proofs.ChainLemmas.{count_in_chain, none_apart, number_in_chain, one_more_apart}
 
 abbrev asked : (cmd : Parser) → AsksForPages cmd → List Arg

@@ -13,7 +13,9 @@ use Rattle.clap.specs.declared.parser.matches.ArgMatches.{ArgMatches}
 use Rattle.clap.specs.declared.parser.matches.Found.{Found}
 use Rattle.clap.proofs.CallerLemmas.{required_in_chain}
 use Rattle.clap.proofs.CallerReads.{signed_reads}
-use Rattle.command_words.specs.Command.{AsksForList, AsksForView, IsMadeOf, IsTold, PassesIn, PassesNumber}
+use Rattle.command_words.specs.Arguments.{AsksForList, AsksForView, IsMadeOf, PassesIn}
+use Rattle.command_words.specs.Arguments.{PassesNumber}
+use Rattle.command_words.specs.Command.{IsTold}
 use Rattle.command_words.specs.Command.{folder_rule, json_rule}
 use Rattle.command_words.proofs.ClapLemmas.{is_read}
 use Rattle.command_words.proofs.ChainLemmas.{number_in_chain}

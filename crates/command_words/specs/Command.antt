@@ -7,23 +7,18 @@ use Rattle.std.specs.Prelude.{slice_get, true, unwrap_or}
 use Rattle.std.specs.List.{All, Any}
 use Rattle.std.specs.Str.{bytes_eq, chars}
 use Rattle.std.specs.Str.Parse.{digits_value, without_leading_plus}
-use Rattle.clap.specs.Built.{AddsArg, AddsInTurn, FitsChain, TakesValue}
 use Rattle.clap.specs.Lexer.{usize_max}
-use Rattle.clap.specs.Words.{Accepts, App, IsAmong, Rule, Text, all_of, args_of, fault_of}
-use Rattle.clap.specs.Words.{first_of, groups_of, kind_of, matches_of, new_app, new_rule, one_of}
-use Rattle.clap.specs.Words.{one_text, rule_of, with_rule, without_minus}
-use Rattle.clap.specs.declared.builder.arg.Arg.{Arg}
-use Rattle.clap.specs.declared.builder.command.Command.{Command as Parser}
-use Rattle.clap.specs.declared.builder.command.Command.TheViews.{out-Command as fields_of}
+use Rattle.clap.specs.Words.{App, IsAmong, Rule, Text, all_of, fault_of, first_of, kind_of}
+use Rattle.clap.specs.Words.{matches_of, new_app, new_rule, one_of, with_rule}
 use Rattle.clap.specs.declared.builder.action.ArgAction.TheVariants.{Append, Set, SetTrue}
 use Rattle.clap.specs.declared.builder.value_parser.ValueParser.{ValueParser}
 use Rattle.clap.specs.declared.builder.value_parser.ValueParser.TheVariants.{Signed}
-use Rattle.clap.specs.declared.parser.matches.Found.{Found}
 use Rattle.strsim.specs.Edits.{levenshtein_row}
 use Rattle.command_words.specs.declared.command.Command.{Command}
-use Rattle.command_words.specs.declared.command.Command.TheVariants.{Audit, ListFolder, Open}
-use Rattle.command_words.specs.declared.command.Command.TheVariants.{Redo, RedoInto}
-use Rattle.command_words.specs.declared.command.Command.TheVariants.{Restore, Run, Show, Version}
+use Rattle.command_words.specs.declared.command.Command.TheVariants.{Audit, Backup, ListFolder}
+use Rattle.command_words.specs.declared.command.Command.TheVariants.{Open, Redo, RedoInto, Renew}
+use Rattle.command_words.specs.declared.command.Command.TheVariants.{Restore, Run, Show, Verify}
+use Rattle.command_words.specs.declared.command.Command.TheVariants.{Version}
 use Rattle.command_words.specs.declared.command.UsageFault.{UsageFault}
 use Rattle.command_words.specs.declared.command.UsageFault.TheVariants.{BadArguments, HelpAsked}
 use Rattle.command_words.specs.declared.command.UsageFault.TheVariants.{MisspelledCommand}
@@ -230,10 +225,59 @@ show_app = with_rule (with_rule (with_rule
 abbrev pub list_app : App
 list_app = with_rule (with_rule (new_app (codes "list")) folder_rule) json_rule
 
+-- the copy that a new one stands on
+abbrev pub on_rule : Rule
+on_rule = number_rule (codes "on") (codes "on") 1 4294967295
+
+-- the new copy stands on none
+abbrev pub full_rule : Rule
+full_rule = record (new_rule (codes "is_full")) {
+  long = Some (codes "full");
+  action = Some SetTrue;
+}
+
+-- a folder that the files go into, too
+abbrev pub into_rule : Rule
+into_rule = record (new_rule (codes "into")) {
+  long = Some (codes "into");
+  action = Some Set;
+  value_names = 1;
+}
+
+-- `backup FOLDER [--on N] [--full] [--into DIR]`
+abbrev pub backup_app : App
+backup_app = with_rule
+    (with_rule (with_rule (with_rule (new_app (codes "backup")) folder_rule) on_rule) full_rule)
+    into_rule
+
+-- `verify FOLDER`
+abbrev pub verify_app : App
+verify_app = with_rule (new_app (codes "verify")) folder_rule
+
+-- the folder of a closed database
+abbrev pub old_rule : Rule
+old_rule = record (new_rule (codes "old")) {
+  action = Some Set;
+  value_names = 1;
+  required = true;
+}
+
+-- the folder of the one that begins with its numbers
+abbrev pub renewed_rule : Rule
+renewed_rule = record (new_rule (codes "renewed")) {
+  action = Some Set;
+  value_names = 1;
+  required = true;
+}
+
+-- `renew OLD NEW`
+abbrev pub renew_app : App
+renew_app = with_rule (with_rule (new_app (codes "renew")) old_rule) renewed_rule
+
 -- each command, as clap reads it; `redo` is read in two ways
 abbrev pub apps : List App
 apps = redo_app ∷ run_app ∷ restore_app ∷ audit_app ∷ redo_into_app ∷ open_app ∷ show_app
-    ∷ list_app ∷ []
+    ∷ list_app ∷ backup_app ∷ verify_app ∷ renew_app ∷ []
 
 -- the first word is the name of the command
 abbrev pub Names : List Text → App → Type 0
@@ -312,9 +356,19 @@ Gives words (Show file from to txn page json) = let rows = matches_of show_app w
 Gives words (ListFolder folder json) = let rows = matches_of list_app words in
     IsTakenBy words list_app × (first_of (codes "dir") rows ≡ Some folder.now)
     × IsFlag (one_of (codes "as_json") rows) json
+Gives words (Backup folder on full into) = let rows = matches_of backup_app words in
+    IsTakenBy words backup_app × (first_of (codes "dir") rows ≡ Some folder.now)
+    × IsTold (one_of (codes "on") rows) on × IsFlag (one_of (codes "is_full") rows) full
+    × (option_map (λ name. name.now) into ≡ first_of (codes "into") rows)
+Gives words (Verify folder) = let rows = matches_of verify_app words in
+    IsTakenBy words verify_app × (first_of (codes "dir") rows ≡ Some folder.now)
+Gives words (Renew old renewed) = let rows = matches_of renew_app words in
+    IsTakenBy words renew_app × (first_of (codes "old") rows ≡ Some old.now)
+    × (first_of (codes "renewed") rows ≡ Some renewed.now)
 Gives words Version = IsSomeAnd (slice_get words 0) AsksForVersion
 
--- a volume has 1 to 65,536 pages, and 1 to 65,536 frames are there for them
+-- a volume has 1 to 65,536 pages, and 1 to 65,536 frames are there for them; a copy has a number
+-- from 1 on
 abbrev pub HasCounts : Command → Type 0
 HasCounts Redo = Unit {0}
 HasCounts (RedoInto output force) = Unit {0}
@@ -326,149 +380,10 @@ HasCounts (Restore log master archives output log_output force) = Unit {0}
 HasCounts (Audit log archives master all) = Unit {0}
 HasCounts (Show file from to txn page json) = Unit {0}
 HasCounts (ListFolder folder json) = Unit {0}
+HasCounts (Backup folder on full into) = IfSome on (λ n. (1 ≤ n) × (n < 2 ^ 32))
+HasCounts (Verify folder) = Unit {0}
+HasCounts (Renew old renewed) = Unit {0}
 HasCounts Version = Unit {0}
-
--- clap builds the command of these arguments, one after another
-pub record IsMadeOf (command : Parser) (arguments : List Arg) : Type 0 where
-  pub start : Parser
-  pub no_arguments : args_of start ≡ []
-  pub no_groups : groups_of start ≡ []
-  pub no_globals : (fields_of start).has_globals ≡ false
-  pub keeps : (fields_of start).subcommand_negates_reqs ≡ false
-  pub chain : AddsInTurn AddsArg start arguments command
-  pub fit : All FitsChain arguments
-
--- the number of pages is required, and then that of frames, a folder and two flags may be told
-pub record AsksForPages (command : Parser) : Type 0 where
-  pub pages : Arg
-  pub frames : Arg
-  pub save : Arg
-  pub strict : Arg
-  pub force : Arg
-  pub made : IsMadeOf command (pages ∷ frames ∷ save ∷ strict ∷ force ∷ [])
-  pub pages_is : rule_of pages ≡ pages_rule
-  pub frames_is : rule_of frames ≡ frames_rule
-  pub save_is : rule_of save ≡ save_rule
-  pub strict_is : rule_of strict ≡ strict_rule
-  pub force_is : rule_of force ≡ force_rule
-  pub required : TakesValue pages
-  pub pages_parsed : pages.value_parser ≡ Some count_parser
-  pub frames_parsed : frames.value_parser ≡ Some count_parser
-
--- a folder is required, and then the numbers of pages and of frames, and two flags, may be told
-pub record AsksForFolder (command : Parser) : Type 0 where
-  pub folder : Arg
-  pub pages : Arg
-  pub frames : Arg
-  pub salvage : Arg
-  pub strict : Arg
-  pub made : IsMadeOf command (folder ∷ pages ∷ frames ∷ salvage ∷ strict ∷ [])
-  pub folder_is : rule_of folder ≡ folder_rule
-  pub pages_is : rule_of pages ≡ told_pages_rule
-  pub frames_is : rule_of frames ≡ frames_rule
-  pub salvage_is : rule_of salvage ≡ salvage_rule
-  pub strict_is : rule_of strict ≡ strict_rule
-  pub required : TakesValue folder
-  pub pages_parsed : pages.value_parser ≡ Some count_parser
-  pub frames_parsed : frames.value_parser ≡ Some count_parser
-
--- two files are required, and then more may be named, one for each output, and a flag
-pub record AsksForFiles (command : Parser) : Type 0 where
-  pub log : Arg
-  pub master : Arg
-  pub archive : Arg
-  pub output : Arg
-  pub log_output : Arg
-  pub force : Arg
-  pub made : IsMadeOf command (log ∷ master ∷ archive ∷ output ∷ log_output ∷ force ∷ [])
-  pub log_is : rule_of log ≡ log_rule
-  pub master_is : rule_of master ≡ master_rule
-  pub archive_is : rule_of archive ≡ archive_rule
-  pub output_is : rule_of output ≡ output_rule
-  pub log_output_is : rule_of log_output ≡ log_output_rule
-  pub force_is : rule_of force ≡ force_rule
-  pub log_required : TakesValue log
-  pub master_required : TakesValue master
-
--- a log is required, and then archives and a master record may be named, and a flag
-pub record AsksForLog (command : Parser) : Type 0 where
-  pub log : Arg
-  pub archive : Arg
-  pub master : Arg
-  pub all : Arg
-  pub made : IsMadeOf command (log ∷ archive ∷ master ∷ all ∷ [])
-  pub log_is : rule_of log ≡ log_rule
-  pub archive_is : rule_of archive ≡ archive_rule
-  pub master_is : rule_of master ≡ audited_master_rule
-  pub all_is : rule_of all ≡ all_rule
-  pub log_required : TakesValue log
-
--- a file is required, and then numbers and a flag may be told
-pub record AsksForView (command : Parser) : Type 0 where
-  pub file : Arg
-  pub from : Arg
-  pub to : Arg
-  pub txn : Arg
-  pub page : Arg
-  pub json : Arg
-  pub made : IsMadeOf command (file ∷ from ∷ to ∷ txn ∷ page ∷ json ∷ [])
-  pub file_is : rule_of file ≡ file_rule
-  pub from_is : rule_of from ≡ from_rule
-  pub to_is : rule_of to ≡ to_rule
-  pub txn_is : rule_of txn ≡ txn_rule
-  pub page_is : rule_of page ≡ page_rule
-  pub json_is : rule_of json ≡ json_rule
-  pub required : TakesValue file
-  pub from_parsed : from.value_parser ≡ Some (Signed (pos 0) (pos 67108928))
-  pub to_parsed : to.value_parser ≡ Some (Signed (pos 0) (pos 67108928))
-  pub txn_parsed : txn.value_parser ≡ Some (Signed (pos 1) (pos 4294967295))
-  pub page_parsed : page.value_parser ≡ Some (Signed (pos 0) (pos 65535))
-
--- a folder is required, and then a flag may be told
-pub record AsksForList (command : Parser) : Type 0 where
-  pub folder : Arg
-  pub json : Arg
-  pub made : IsMadeOf command (folder ∷ json ∷ [])
-  pub folder_is : rule_of folder ≡ folder_rule
-  pub json_is : rule_of json ≡ json_rule
-  pub required : TakesValue folder
-
--- an output is required, and then a flag may be told
-pub record AsksForOutput (command : Parser) : Type 0 where
-  pub output : Arg
-  pub force : Arg
-  pub made : IsMadeOf command (output ∷ force ∷ [])
-  pub output_is : rule_of output ≡ record output_rule { required = true }
-  pub force_is : rule_of force ≡ force_rule
-  pub output_required : TakesValue output
-
--- what was found has a number of this name in these bounds, and clap let it through
-abbrev pub PassesIn : ℕ → ℕ → Found → Text → Type 0
-PassesIn low high found name = (text : Text) × (one_text found name ≡ Some (without_minus text))
-    × Accepts false (Signed (pos low) (pos high)) text
-
--- a number of pages or of frames
-abbrev pub PassesCount : Found → Text → Type 0
-PassesCount found name = PassesIn 1 65536 found name
-
--- a number that fits in 32 bits is there, or none of this name was given
-abbrev pub PassesNumber : Found → Text → Type 0
-PassesNumber found name = (one_text found name ≡ None)
-    ⊎ ((low : ℕ) × (high : ℕ) × (high < 2 ^ 32) × PassesIn low high found name)
-
--- the number of pages is there
-abbrev pub PassesPages : Found → Type 0
-PassesPages found = PassesCount found (codes "pages")
-
--- the number of pages is there, or it was not given
-abbrev pub PassesToldPages : Found → Type 0
-PassesToldPages found =
-    (one_text found (codes "pages") ≡ None) ⊎ PassesCount found (codes "pages")
-
--- the number of frames is there, or it was not given
-abbrev pub PassesFrames : Found → Type 0
-PassesFrames found =
-    (one_text found (codes "frames") ≡ None) ⊎ PassesCount found (codes "frames")
 
 -- the words of `redo`, written out; `--` only ends the options
 abbrev pub IsRedo : List Text → Type 0
@@ -484,8 +399,9 @@ IsUnknown name = All (λ app. app.top.name ≢ name) apps × (AsksForHelp name �
 
 -- the names that a user may have meant
 abbrev pub names : List Text
-names = codes "redo" ∷ codes "run" ∷ codes "open" ∷ codes "restore" ∷ codes "audit"
-    ∷ codes "show" ∷ codes "list" ∷ codes "help" ∷ []
+names = codes "redo" ∷ codes "run" ∷ codes "open" ∷ codes "backup" ∷ codes "restore"
+    ∷ codes "audit" ∷ codes "verify" ∷ codes "show" ∷ codes "list" ∷ codes "renew"
+    ∷ codes "help" ∷ []
 
 -- how many characters are put in, taken out or replaced to make the name out of the word
 abbrev pub edits : Text → Text → ℕ

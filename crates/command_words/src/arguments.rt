@@ -3,9 +3,10 @@ ghost use Rattle.std.specs.Prelude.{◌≡◌, IfErr, IfOk, Some, [], codes, is_
 ghost use Rattle.clap.specs.Built.{FitsChain, TakesValue};
 ghost use Rattle.clap.specs.Words.{app_of, fault_of, first_value, found_of, matches_of, rows_of};
 ghost use Rattle.clap.specs.Words.{rule_of};
-ghost use Rattle.command_words.specs.Command.{AsksForFiles, AsksForLog, AsksForOutput};
-ghost use Rattle.command_words.specs.Command.{AsksForPages, ExplainsRead, Names, PassesFrames};
-ghost use Rattle.command_words.specs.Command.{PassesPages, all_rule, archive_rule, audit_app};
+ghost use Rattle.command_words.specs.Arguments.{AsksForFiles, AsksForLog, AsksForOutput};
+ghost use Rattle.command_words.specs.Arguments.{AsksForPages, PassesFrames, PassesPages};
+ghost use Rattle.command_words.specs.Command.{ExplainsRead, Names};
+ghost use Rattle.command_words.specs.Command.{all_rule, archive_rule, audit_app};
 ghost use Rattle.command_words.specs.Command.{audited_master_rule, count_parser, force_rule};
 ghost use Rattle.command_words.specs.Command.{frames_rule};
 ghost use Rattle.command_words.specs.Command.{log_output_rule, log_rule, master_rule, output_rule};

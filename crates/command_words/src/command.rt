@@ -4,10 +4,11 @@ ghost use Rattle.std.specs.Prelude.{IsSomeAnd, MatchResult, Ok, Some, [], codes}
 ghost use Rattle.std.specs.Prelude.{is_some, map, option_map, slice_get, true, unwrap_or};
 ghost use Rattle.clap.specs.Words.{fault_of, first_value, found_of, kind_of, matched_of, one_of};
 ghost use Rattle.clap.specs.Words.{raw_values, rows_of};
+ghost use Rattle.command_words.specs.Arguments.{PassesFrames, PassesPages};
 ghost use Rattle.command_words.specs.Command.{AsksForVersion, Explains, Gives, HasCounts, IsNumberRead};
 ghost use Rattle.command_words.specs.Command.{IsRedo, IsTaken};
 ghost use Rattle.command_words.specs.Command.{ExplainsRead, ExplainsUnknown, IsFar, IsFramesRead};
-ghost use Rattle.command_words.specs.Command.{IsNear, IsUnknown, Names, PassesFrames, PassesPages};
+ghost use Rattle.command_words.specs.Command.{IsNear, IsUnknown, Names};
 ghost use Rattle.command_words.specs.Command.{audit_app, redo_app, redo_into_app, restore_app};
 ghost use Rattle.command_words.specs.Command.{run_app};
 ghost use Rattle.command_words.specs.declared.command.UsageFault.TheVariants.{BadArguments};
@@ -17,6 +18,7 @@ ghost use Rattle.clap.specs.declared.error.kind.ErrorKind.TheVariants as kind;
 use crate::arguments::{
     audit_matches, redo_into_matches, redo_matches, restore_matches, run_matches,
 };
+use crate::folder_words::{backup_of, renew_of, verify_of};
 use crate::open_words::open_of;
 use crate::view_words::{list_of, show_of};
 use clap::ArgMatches;
@@ -95,6 +97,25 @@ pub enum Command<'a> {
         folder: &'a str,
         json: bool,
     },
+    /// To open the closed database in this folder, make a checkpoint and an image copy, and close
+    /// it. The copy stands on the one of this number, at least 1, or on the newest one, or it is a
+    /// full one. The files go into the second folder, too, if one is named.
+    Backup {
+        folder: &'a str,
+        on: Option<u32>,
+        full: bool,
+        into: Option<&'a str>,
+    },
+    /// To check the files of this folder against its manifest, and that its copies restore.
+    Verify {
+        folder: &'a str,
+    },
+    /// To make a database in the new folder that begins with the numbers of the closed one in the
+    /// old folder, and whose log begins anew.
+    Renew {
+        old: &'a str,
+        new: &'a str,
+    },
     /// To tell which version of the program this is.
     Version,
 }
@@ -102,8 +123,8 @@ pub enum Command<'a> {
 /// As many frames as a volume has pages at most, so that no page has to leave memory.
 pub(crate) const DEFAULT_FRAMES: u32 = 65_536;
 
-const NAMES: [&str; 8] = [
-    "redo", "run", "open", "restore", "audit", "show", "list", "help",
+const NAMES: [&str; 11] = [
+    "redo", "run", "open", "backup", "restore", "audit", "verify", "show", "list", "renew", "help",
 ];
 
 const HELP: &str = "\
@@ -113,10 +134,13 @@ Commands:
   redo     Write the volume that the log on standard input makes
   run      Play the script on standard input on a formatted volume
   open     Open the database in a folder, and answer the lines of standard input
+  backup   Make a checkpoint and an image copy of a closed database
   restore  Write the volume that a log and image copies restore
   audit    Check that a chain of image copies restores what the log says
+  verify   Check the files of a folder against its manifest, and that its copies restore
   show     Print what a log, a master record, an image copy or a volume has
   list     Print which copies a folder has, and what restores of them would do
+  renew    Make a new database of the numbers of a closed one, with an empty log
   help     Print this help, or that of a command
 
 Options:
@@ -195,10 +219,13 @@ pub fn command_of<'a, S: AsStr>(
         "redo" => redo_of(alloc, words),
         "run" => run_of(alloc, words),
         "open" => open_of(alloc, words),
+        "backup" => backup_of(alloc, words),
         "restore" => restore_of(alloc, words),
         "audit" => audit_of(alloc, words),
+        "verify" => verify_of(alloc, words),
         "show" => show_of(alloc, words),
         "list" => list_of(alloc, words),
+        "renew" => renew_of(alloc, words),
         "help" => match words.get(1) {
             Some(command) => help_of(alloc, command.as_str()),
             None => Err(UsageFault::HelpAsked),
@@ -218,10 +245,13 @@ fn help_of<'a>(alloc: Global, name: &'a str) -> Result<Command<'a>, UsageFault<'
         "redo" => redo_into_of(alloc, &["redo", "--help"]),
         "run" => run_of(alloc, &["run", "--help"]),
         "open" => open_of(alloc, &["open", "--help"]),
+        "backup" => backup_of(alloc, &["backup", "--help"]),
         "restore" => restore_of(alloc, &["restore", "--help"]),
         "audit" => audit_of(alloc, &["audit", "--help"]),
+        "verify" => verify_of(alloc, &["verify", "--help"]),
         "show" => show_of(alloc, &["show", "--help"]),
         "list" => list_of(alloc, &["list", "--help"]),
+        "renew" => renew_of(alloc, &["renew", "--help"]),
         "help" | "--help" | "-h" => Err(UsageFault::HelpAsked),
         _ => Err(fault_of_unknown(alloc, name)),
     }

@@ -3,6 +3,7 @@
 
 mod arguments;
 mod command;
+mod folder_words;
 mod open_words;
 mod view_words;
 mod words;

@@ -10,6 +10,7 @@ ghost use Rattle.script_run.specs.Status.{status_of_finish};
 mod advice;
 mod audits;
 mod chain_reason;
+mod folder_commands;
 mod headers;
 mod leftovers;
 mod list;
@@ -29,6 +30,7 @@ use audits::audit;
 use command_words::{Command, command_of, words_of};
 use event_script::MAX_SCRIPT_BYTES;
 use file_view::{Form, Wanted};
+use folder_commands::{backup, renew, verify};
 use list::list;
 use open_database::{OpenCall, OpenEnd, open_folder};
 use output::{Inputs, Limits, tell_output};
@@ -150,6 +152,16 @@ fn main(rt: HostRuntime) -> ExitCode {
             show(&rt, file, &wanted, form_of(json))
         }
         Ok(Command::ListFolder { folder, json }) => list(&rt, folder, form_of(json)),
+        Ok(
+            Command::Backup {
+                folder,
+                on,
+                full,
+                into,
+            },
+        ) => backup(&rt, folder, on, full, into),
+        Ok(Command::Verify { folder }) => verify(&rt, folder),
+        Ok(Command::Renew { old, new }) => renew(&rt, old, new),
         Ok(Command::Version) => answered(&rt, &Version, 0),
         Err(fault) => told_whole(&rt, &EscapedText(&fault)),
     }
@@ -385,7 +397,7 @@ fn told(rt: &impl Eprint, fault: &impl Display) -> ExitCode
 
 /// Writes a text that ends with its own line break to standard error, and answers the status of a
 /// fault.
-fn told_whole(rt: &impl Eprint, text: &impl Display) -> ExitCode
+pub(crate) fn told_whole(rt: &impl Eprint, text: &impl Display) -> ExitCode
     ensures { exit_status result ≡ 2 }
 {
     // Where even this cannot be written, the status still tells.

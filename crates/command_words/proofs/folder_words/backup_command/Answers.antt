@@ -1,0 +1,60 @@
+use Rattle.std.proofs.Common.{[], ap, codes, refl, ◌∙◌, ◌∷◌}
+use Rattle.std.proofs.lemmas.Result.{IfOk-weaker}
+use Rattle.clap.specs.declared.builder.command.Command.{Command as Parser}
+use Rattle.clap.specs.declared.builder.command.Command.TheOpen.{Command-F}
+use Rattle.clap.specs.Simple.{app_of_fields, new_app, with_rule}
+use Rattle.command_words.specs.Command.{folder_rule, full_rule, into_rule, on_rule}
+use Rattle.command_words.proofs.ChainLemmas.{made_of, none_fit, one_more_fits}
+use Rattle.command_words.proofs.RequiredLemmas.{app_with}
+use Rattle.command_words.proofs.folder_words.backup_command.Goals as goal
+
+pub returns-clause-made : goal.returns-clause-made
+returns-clause-made c =
+    let args = λ (f : Command-F Parser). f.args.items in
+    let groups = λ (f : Command-F Parser). f.groups.items in
+    let globals = λ (f : Command-F Parser). f.has_globals in
+    let negates = λ (f : Command-F Parser). f.subcommand_negates_reqs in
+    let named = c.in_ok-bin_name.ensures.0 in
+    let shown = c.override_usage.ensures in
+    IfOk-weaker c.arg-4.result _ _ (λ command added. record {
+      folder = c.folder_arg.result;
+      on = c.on_arg.result;
+      full = c.full_arg.result;
+      into = c.into_arg.result;
+      made = made_of c.in_ok-bin_name.field-0 command
+          (c.folder_arg.result ∷ c.on_arg.result ∷ c.full_arg.result ∷ c.into_arg.result ∷ [])
+          (ap args named ∙ (ap args shown ∙ (ap args c.about.ensures ∙ c.new.ensures.empty.0)))
+          (ap groups named ∙ (ap groups shown ∙ (ap groups c.about.ensures ∙ c.new.ensures.empty.1)))
+          (ap globals named ∙ (ap globals shown ∙ (ap globals c.about.ensures ∙ c.new.ensures.local)))
+          (ap negates named ∙ (ap negates shown ∙ (ap negates c.about.ensures ∙ c.new.ensures.negates)))
+          (c.in_ok-arg.field-0, c.in_ok-arg.ensures, (c.in_ok-arg-2.field-0, c.in_ok-arg-2.ensures, (c.in_ok-arg-3.field-0, c.in_ok-arg-3.ensures, (command, added, refl))))
+          (one_more_fits c.folder_arg.result (c.on_arg.result ∷ c.full_arg.result ∷ c.into_arg.result ∷ []) c.folder_arg.ensures.fits
+          (one_more_fits c.on_arg.result (c.full_arg.result ∷ c.into_arg.result ∷ []) c.on_arg.ensures.fits
+          (one_more_fits c.full_arg.result (c.into_arg.result ∷ []) c.full_arg.ensures.fits
+          (one_more_fits c.into_arg.result [] c.into_arg.ensures.fits
+          none_fit))));
+      folder_is = c.folder_arg.ensures.rule;
+      on_is = c.on_arg.ensures.rule;
+      full_is = c.full_arg.ensures.rule;
+      into_is = c.into_arg.ensures.rule;
+      required = c.folder_arg.ensures.value;
+      on_parsed = c.on_arg.ensures.parser;
+    }) c.arg-4.ensures
+
+pub returns-clause-app : goal.returns-clause-app
+returns-clause-app c =
+    let named = c.in_ok-bin_name.ensures.0 in
+    let shown = c.override_usage.ensures in
+    let start = ap app_of_fields named ∙ (ap app_of_fields shown ∙ (ap app_of_fields c.about.ensures ∙ c.new.ensures.app)) in
+    let app_0 = new_app (codes "backup") in
+    let with_1 = app_with c.in_ok-bin_name.field-0 c.in_ok-arg.field-0 c.folder_arg.result app_0 folder_rule
+    c.in_ok-arg.ensures c.folder_arg.ensures.fits.1 start c.folder_arg.ensures.rule in
+    let app_1 = with_rule app_0 folder_rule in
+    let with_2 = app_with c.in_ok-arg.field-0 c.in_ok-arg-2.field-0 c.on_arg.result app_1 on_rule
+    c.in_ok-arg-2.ensures c.on_arg.ensures.fits.1 with_1 c.on_arg.ensures.rule in
+    let app_2 = with_rule app_1 on_rule in
+    let with_3 = app_with c.in_ok-arg-2.field-0 c.in_ok-arg-3.field-0 c.full_arg.result app_2 full_rule
+    c.in_ok-arg-3.ensures c.full_arg.ensures.fits.1 with_2 c.full_arg.ensures.rule in
+    let app_3 = with_rule app_2 full_rule in
+    IfOk-weaker c.arg-4.result _ _ (λ command added. app_with c.in_ok-arg-3.field-0 command c.into_arg.result app_3
+    into_rule added c.into_arg.ensures.fits.1 with_3 c.into_arg.ensures.rule) c.arg-4.ensures

@@ -1,0 +1,33 @@
+use Rattle.std.proofs.Common.{lit<, refl}
+use Rattle.command_words.specs.Command.{renew_app}
+use Rattle.command_words.proofs.ClapLemmas.{for_memory, matched, passed_up, taken}
+use Rattle.command_words.proofs.FolderLemmas.{old_given, renewed_given}
+use Rattle.command_words.proofs.folder_words.renew_matches.Goals as goal
+
+pub returns-in_err-try_get_matches_from-clause-only :
+    goal.returns-in_err-try_get_matches_from-clause-only
+returns-in_err-try_get_matches_from-clause-only g c =
+    for_memory _ _ renew_app _ _ c.in_ok-renew_command.ensures.app refl
+    c.in_err-try_get_matches_from.ensures.kinds c.from_residual-in_err-try_get_matches_from.ensures.1
+
+pub returns-in_err-try_get_matches_from-clause-explained :
+    goal.returns-in_err-try_get_matches_from-clause-explained
+returns-in_err-try_get_matches_from-clause-explained g c =
+    passed_up 10 _ _ renew_app _ _ (lit< tt) refl c.in_ok-renew_command.ensures.app refl c.requires
+    c.in_err-try_get_matches_from.ensures.kinds c.from_residual-in_err-try_get_matches_from.ensures.1
+
+pub returns-clause-rows : goal.returns-clause-rows
+returns-clause-rows g c = matched _ _ renew_app c.in_ok-try_get_matches_from.field-0
+    c.in_ok-renew_command.ensures.app refl c.in_ok-try_get_matches_from.ensures.matches
+
+pub returns-clause-taken : goal.returns-clause-taken
+returns-clause-taken g c =
+    taken _ _ renew_app c.in_ok-renew_command.ensures.app refl c.in_ok-try_get_matches_from.ensures.kinds
+
+pub returns-clause-old : goal.returns-clause-old
+returns-clause-old g c = old_given c.in_ok-renew_command.field-0 c.in_ok-try_get_matches_from.field-0
+    c.in_ok-renew_command.ensures.made c.in_ok-try_get_matches_from.ensures.parsed
+
+pub returns-clause-renewed : goal.returns-clause-renewed
+returns-clause-renewed g c = renewed_given c.in_ok-renew_command.field-0 c.in_ok-try_get_matches_from.field-0
+    c.in_ok-renew_command.ensures.made c.in_ok-try_get_matches_from.ensures.parsed
