@@ -1,5 +1,5 @@
 -- What follows from the first word, which names a command or none.
-use Rattle.std.proofs.Common.{◌≡◌, ◌⊎◌, ◌<◌, ◌∙◌, ℕ, Bool, true, false, List, inl, inr, ap, arith, codes, lit<, refl, subst}
+use Rattle.std.proofs.Common.{◌≡◌, ◌⊎◌, ◌∙◌, Bool, true, false, List, inl, inr, ap, arith, codes, lit<, refl, subst}
 use Rattle.std.proofs.Common.{sym, zero, suc, true≢false}
 use Rattle.std.specs.Prelude.{◌∷◌, ◌≢◌, Result, Ok, Err, IfErr, IfOk, IsSomeAnd, None, Some, [], if◌then◌else◌, map, slice_get}
 use Rattle.std.specs.List.{All, Any}

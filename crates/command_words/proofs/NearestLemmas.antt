@@ -1,5 +1,5 @@
 -- Which name is nearest, found by one name after another.
-use Rattle.std.proofs.Common.{◌≡◌, ◌≤◌, ◌<◌, ◌+◌, ℕ, Option, MatchOption, Some, None, ap, arith, below_more, codes, get_or, length}
+use Rattle.std.proofs.Common.{◌≡◌, ◌≤◌, ◌<◌, ◌+◌, ℕ, Option, MatchOption, Some, None, ap, arith, below_more, get_or, length}
 use Rattle.std.proofs.Common.{◌∷◌, [], List, map, refl, subst, suc, sym, zero}
 use Rattle.std.specs.List.{Any}
 use Rattle.clap.specs.Words.{Text}
