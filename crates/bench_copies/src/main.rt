@@ -54,7 +54,7 @@ where
     requires few { case.now.pages ≤ 65536 }
     requires workers { case.now.workers ≤ 64 }
 {
-    let device = FileLog::new(log_file(files, name).ok()?).ok()?;
+    let device = FileLog::new(files.alloc(), log_file(files, name).ok()?).ok()?;
     measure::<FileLog, Brand, R>(rt, files.alloc(), Blank::new(65), device, case)
 }
 

@@ -97,7 +97,7 @@ pub struct Devices {
 
 fn log_of(files: &HostRuntime, folder: &str) -> Result<FileLog, FileTrouble> {
     match made(files, folder, LOG) {
-        Ok(file) => FileLog::new(file).map_err(|why| trouble(Place::Log, &why)),
+        Ok(file) => FileLog::new(files.alloc(), file).map_err(|why| trouble(Place::Log, &why)),
         Err(error) => Err(FileTrouble::of(Place::Log, &error)),
     }
 }

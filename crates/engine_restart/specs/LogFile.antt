@@ -2,7 +2,7 @@
 use Rattle.std.specs.Prelude.{ℕ, ◌≡◌, ◌<◌, List, [], ◌∷◌, ◌++◌, length, Option}
 use Rattle.engine_rules.specs.EngineState.{EngineState}
 use Rattle.file_devices.specs.Calls.{done}
-use Rattle.file_devices.specs.FileLog.{ResumeFails, known_of}
+use Rattle.file_devices.specs.FileLog.{LogOnDisk, ResumeFails, bytes_of}
 use Rattle.file_devices.specs.declared.calls.FileCall.{FileCall}
 use Rattle.file_devices.specs.declared.calls.Request.TheVariants.{Read, SetLen, Sync, Write}
 use Rattle.log_front.specs.declared.cut.Cut.{Cut}
@@ -30,9 +30,8 @@ KeepsFront front old new =
     new ≡ old ++ done (Write 0 front) ∷ done (SetLen (length front)) ∷ done Sync ∷ []
 
 -- by the calls that were made of it a file begins with this log, and all of it lasts there
-abbrev pub LastsOnFile : Log → List FileCall → Type 0
-LastsOnFile log file =
-    HasLasting (λ calls. (known_of calls).bytes) (λ calls. (known_of calls).lasting) log file
+abbrev pub LastsOnFile : {D : Type 0} → Log → LogOnDisk D → Type 0
+LastsOnFile {D} log file = HasLasting (bytes_of {D}) (λ it. it.end) log file
 
 -- why no log was found in a file of so many bytes: they are more than are read; or the file failed
 -- to give them all or to sync; or it gave them, and they have none
@@ -41,7 +40,7 @@ HasNoLog len OutOfMemory = Unit {0}
 HasNoLog len (TooLong count) = (count ≡ len) × (MAX_FILE_BYTES < len)
 HasNoLog len (File why) = (bytes : List ℕ) × (length bytes ≡ len) × ResumeFails bytes why
 HasNoLog len (Found fault file) =
-    (bytes : List ℕ) × IsReadWhole len bytes file × FindsNone bytes fault
+    (bytes : List ℕ) × IsReadWhole len bytes file.calls × FindsNone bytes fault
 
 -- so it was at first, whatever the file was asked for later
 pub record WasReadWhole (len : ℕ) (bytes : List ℕ) (file : List FileCall) : Type 0 where

@@ -3,6 +3,7 @@
 
 mod add;
 mod add_fault;
+mod committed;
 mod copy_check;
 mod fault;
 mod found;
@@ -16,6 +17,7 @@ mod store;
 mod undo_on_log;
 
 pub use add_fault::AddCopyFault;
+pub use committed::committed_pages;
 pub use fault::RestartFault;
 pub use found::log_in;
 pub use found_fault::FoundFault;

@@ -1,7 +1,7 @@
 //! The log in a file, and the device that has it.
 
 ghost use Rattle.std.specs.Prelude.{◌≡◌, ◌<◌, drop, take, Err, IfErr, IfOk, OnErr, OnOk};
-ghost use Rattle.file_devices.specs.FileLog.{KeepFails, known_of};
+ghost use Rattle.file_devices.specs.FileLog.{KeepFails, bytes_of};
 ghost use Rattle.log_front.specs.Front.{IsFrontOf, end_of};
 ghost use Rattle.log_records.specs.Log.{log_bytes};
 ghost use Rattle.log_rules.specs.Linked.{IsLinked};
@@ -53,9 +53,10 @@ impl FoundLog {
         ensures read { self.new.bytes ≡ self.old.bytes }
         ensures lasting { OnOk result (LastsOnFile self.new.front.log self.new.device) }
         ensures alone { OnOk result
-            ((known_of self.new.device).bytes ≡ log_bytes self.new.front.log) }
+            (bytes_of self.new.device ≡ log_bytes self.new.front.log) }
         ensures calls { OnOk result
-            (KeepsFront (log_bytes self.old.front.log) self.old.device self.new.device) }
+            (KeepsFront (log_bytes self.old.front.log)
+                self.old.device.calls self.new.device.calls) }
         ensures failed { OnErr result
             (KeepFails self.old.device (log_bytes self.old.front.log) self.new.device) }
     {
@@ -73,7 +74,7 @@ impl FoundLog {
 /// `OutOfMemory` where memory for the bytes is refused; `File` where the file has fewer bytes, or a
 /// call of it fails; and `Found` with the faults of `log_in`.
 pub fn found_log(alloc: Global, file: File, len: u64) -> Result<FoundLog, FoundLogFault>
-    ensures whole { IfOk result (λ it. IsReadWhole len it.bytes.items it.device) }
+    ensures whole { IfOk result (λ it. IsReadWhole len it.bytes.items it.device.calls) }
     ensures front { IfOk result (λ it. IsFrontOf it.bytes.items it.front) }
     ensures linked { IfOk result (λ it. IsLinked it.front.log.records) }
     ensures lasting { IfOk result (λ it. LastsOnFile it.front.log it.device) }
@@ -84,7 +85,7 @@ pub fn found_log(alloc: Global, file: File, len: u64) -> Result<FoundLog, FoundL
         return Err(FoundLogFault::TooLong(len));
     }
     let mut bytes = zeros(alloc, len as usize)?;
-    let device = match FileLog::resume(file, &mut bytes) {
+    let device = match FileLog::resume(alloc, file, &mut bytes) {
         Ok(device) => device,
         Err(why) => return Err(FoundLogFault::File(why)),
     };

@@ -1,16 +1,14 @@
--- What is known of a log's file after a store or a sync.
-use Rattle.std.proofs.Common.{◌≡◌, ℕ, ◌+◌, ◌-◌, ◌≤◌, min, List, [], ◌∷◌, ◌++◌, length, take, drop, ap, sym, subst, ◌∙◌, arith, inl, inr}
-use Rattle.std.specs.Prelude.{Bool, true, false, ◌⊎◌, Result, Ok, Err, replicate}
+-- What is known of a log's disk after the calls of a sync.
+use Rattle.std.proofs.Common.{◌≡◌, ℕ, ◌+◌, ◌-◌, ◌≤◌, min, List, [], ◌∷◌, ◌++◌, length, take, drop, ap, sym, subst, ◌∙◌, arith}
+use Rattle.std.specs.Prelude.{Bool, true, false, replicate}
 use Rattle.std.specs.List.{fold}
-use Rattle.std.proofs.lemmas.List.{append-nil, drop_all, length-append, length-replicate, length-take, take-take}
+use Rattle.std.proofs.lemmas.List.{append-nil, drop_all, length-append, length-replicate, length-take, take_at, take-take}
 use Rattle.std.proofs.lemmas.List.Sums.{fold-append}
 use Rattle.file_devices.specs.Calls.{done, failed}
-use Rattle.file_devices.specs.FileLog.{Known, Stores, after_call, after_done, after_failed, known_of, learned, with_len}
+use Rattle.file_devices.specs.FileLog.{Known, after_call, after_done, after_failed, known_of, learned, with_len}
 use Rattle.file_devices.specs.declared.calls.FileCall.{FileCall}
 use Rattle.file_devices.specs.declared.calls.Request.{Request}
 use Rattle.file_devices.specs.declared.calls.Request.TheVariants.{Read, SetLen, Sync, Write}
-use Rattle.log_store.specs.Device.{KeepsFirst}
-use Rattle.log_store.specs.declared.device.DeviceFault.{DeviceFault}
 
 -- ---- calls more
 
@@ -71,114 +69,77 @@ lasting_calls known (call ∷ calls) there =
 pub lasting_there : (calls : List FileCall) → (known_of calls).lasting ≤ length (known_of calls).bytes
 lasting_there calls = lasting_calls (record { bytes = []; lasting = 0 }) calls (omega arith)
 
--- ---- a store
+-- ---- the calls of a sync
+
+-- the bytes before an offset stay, and last as they did
+pub record KnowsFirst (end : ℕ) (old new : Known) : Type 0 where
+  pub bytes : take end new.bytes ≡ take end old.bytes
+  pub lasting : end ≤ new.lasting
+
+known-next : (calls : List FileCall) (call : FileCall) → known_of (calls ++ call ∷ []) ≡ after_call (known_of calls) call
+known-next calls call = known_of-append calls (call ∷ [])
 
 with_len-cut : (len : ℕ) (bytes : List ℕ) → len ≤ length bytes → with_len len bytes ≡ take len bytes
 with_len-cut len bytes le =
     let none : len - length bytes ≡ 0 = omega arith in
     ap (λ k. take len bytes ++ replicate k 0) none ∙ append-nil (take len bytes)
 
--- the first bytes of a file are not cut by a cut at their end
-with_len-take : (from : ℕ) (bytes : List ℕ) → from ≤ length bytes → with_len from (take from bytes) ≡ take from bytes
-with_len-take from bytes le =
-    with_len-cut from (take from bytes) (omega (arith, length-take from bytes)) ∙ take-take from from bytes (omega arith)
+module _ (calls : List FileCall) (end : ℕ) (lasts : end ≤ (known_of calls).lasting) where
+  there : end ≤ length (known_of calls).bytes
+  there = omega (arith, lasts, lasting_there calls)
 
--- bytes that are written where the file was cut stand at its end
-written_behind : (from : ℕ) (bytes next : List ℕ) → from ≤ length bytes
-    → with_len from (take from bytes) ++ next ++ drop (from + length next) (take from bytes)
-    ≡ take from bytes ++ next
-written_behind from bytes next le =
-    ap (λ tail. with_len from (take from bytes) ++ next ++ tail)
-    (drop_all (from + length next) (take from bytes) (omega (arith, length-take from bytes)))
-    ∙ append-nil (with_len from (take from bytes) ++ next)
-    ∙ ap (λ front. front ++ next) (with_len-take from bytes le)
+  pub bytes-cut : (known_of (calls ++ done (SetLen end) ∷ [])).bytes ≡ take end (known_of calls).bytes
+  bytes-cut = ap (λ (known : Known). known.bytes) (known-next calls (done (SetLen end)))
+      ∙ with_len-cut end (known_of calls).bytes there
 
-pub bytes-stored : (old : List FileCall) (from : ℕ) (next : List ℕ) → from ≤ length (known_of old).bytes
-    → (known_of (old ++ done (SetLen from) ∷ done (Write from next) ∷ [])).bytes
-    ≡ take from (known_of old).bytes ++ next
-bytes-stored old from next le =
-    let bytes = (known_of old).bytes in
-    ap (λ (known : Known). known.bytes) (known_of-append old (done (SetLen from) ∷ done (Write from next) ∷ []))
-    ∙ ap (λ front. with_len from front ++ next ++ drop (from + length next) front) (with_len-cut from bytes le)
-    ∙ written_behind from bytes next le
+  pub knows-cut : KnowsFirst end (known_of calls) (known_of (calls ++ done (SetLen end) ∷ []))
+  knows-cut = record {
+    bytes = ap (take end) bytes-cut ∙ take-take end end (known_of calls).bytes (omega arith);
+    lasting = omega (arith, lasts, ap (λ (known : Known). known.lasting) (known-next calls (done (SetLen end))));
+  }
 
-pub lasting-stored : (old : List FileCall) (from : ℕ) (next : List ℕ)
-    → min from (known_of old).lasting ≤ (known_of (old ++ done (SetLen from) ∷ done (Write from next) ∷ [])).lasting
-lasting-stored old from next =
-    let known = known_of-append old (done (SetLen from) ∷ done (Write from next) ∷ []) in
-    omega (arith, ap (λ (known : Known). known.lasting) known)
+  pub knows-not_cut : KnowsFirst end (known_of calls) (known_of (calls ++ failed (SetLen end) ∷ []))
+  knows-not_cut = record {
+    bytes = ap (λ (known : Known). take end known.bytes) (known-next calls (failed (SetLen end)))
+        ∙ take-take end end (known_of calls).bytes (omega arith);
+    lasting = omega (arith, lasts, ap (λ (known : Known). known.lasting) (known-next calls (failed (SetLen end))));
+  }
 
--- what a store that failed leaves: the first bytes, and those of them last that did
-pub record KnowsFirst (from : ℕ) (old new : Known) : Type 0 where
-  pub bytes : new.bytes ≡ take from old.bytes
-  pub lasting : min from old.lasting ≤ new.lasting
+  -- bytes that are written at the end of the file stand behind it
+  pub bytes-written : (next : List ℕ) → length (known_of calls).bytes ≤ end
+      → (known_of (calls ++ done (Write end next) ∷ [])).bytes ≡ take end (known_of calls).bytes ++ next
+  bytes-written next short = ap (λ (known : Known). known.bytes) (known-next calls (done (Write end next)))
+      ∙ ap (λ tail. with_len end (known_of calls).bytes ++ next ++ tail)
+      (drop_all (end + length next) (known_of calls).bytes (omega (arith, short)))
+      ∙ append-nil (with_len end (known_of calls).bytes ++ next)
+      ∙ ap (λ front. front ++ next) (with_len-cut end (known_of calls).bytes there)
 
-pub known_of-not_cut : (old : List FileCall) (from : ℕ)
-    → KnowsFirst from (known_of old) (known_of (old ++ failed (SetLen from) ∷ []))
-known_of-not_cut old from =
-    let known = known_of-append old (failed (SetLen from) ∷ []) in
-    record {
-      bytes = ap (λ (known : Known). known.bytes) known;
-      lasting = omega (arith, ap (λ (known : Known). known.lasting) known);
-    }
+  pub knows-written : (next : List ℕ) → length (known_of calls).bytes ≤ end
+      → KnowsFirst end (known_of calls) (known_of (calls ++ done (Write end next) ∷ []))
+  knows-written next short =
+      let front : length (take end (known_of calls).bytes) ≡ end = omega (arith, there, length-take end (known_of calls).bytes) in
+      record {
+        bytes = ap (take end) (bytes-written next short) ∙ take_at (take end (known_of calls).bytes) next end front;
+        lasting = omega (arith, lasts, ap (λ (known : Known). known.lasting) (known-next calls (done (Write end next))));
+      }
 
-pub known_of-not_written : (old : List FileCall) (from : ℕ) (next : List ℕ) → from ≤ length (known_of old).bytes
-    → KnowsFirst from (known_of old) (known_of (old ++ done (SetLen from) ∷ failed (Write from next) ∷ []))
-known_of-not_written old from next le =
-    let bytes = (known_of old).bytes in
-    let known = known_of-append old (done (SetLen from) ∷ failed (Write from next) ∷ []) in
-    record {
-      bytes = ap (λ (known : Known). known.bytes) known
-          ∙ ap (take from) (with_len-cut from bytes le)
-          ∙ take-take from from bytes (omega arith);
-      lasting = omega (arith, ap (λ (known : Known). known.lasting) known);
-    }
+  pub knows-not_written : (next : List ℕ) → KnowsFirst end (known_of calls) (known_of (calls ++ failed (Write end next) ∷ []))
+  knows-not_written next = record {
+    bytes = ap (λ (known : Known). take end known.bytes) (known-next calls (failed (Write end next)))
+        ∙ take-take end end (known_of calls).bytes (omega arith);
+    lasting = omega (arith, lasts, ap (λ (known : Known). known.lasting) (known-next calls (failed (Write end next))));
+  }
 
-pub known_of-failed : (old new : List FileCall) (from : ℕ) (next : List ℕ) → from ≤ length (known_of old).bytes
-    → (new ≡ old ++ failed (SetLen from) ∷ []) ⊎ (new ≡ old ++ done (SetLen from) ∷ failed (Write from next) ∷ [])
-    → KnowsFirst from (known_of old) (known_of new)
-known_of-failed old new from next le (inl not_cut) =
-    subst (λ calls. KnowsFirst from (known_of old) (known_of calls)) (sym not_cut) (known_of-not_cut old from)
-known_of-failed old new from next le (inr not_written) =
-    subst (λ calls. KnowsFirst from (known_of old) (known_of calls)) (sym not_written)
-    (known_of-not_written old from next le)
+  pub knows-not_synced : KnowsFirst end (known_of calls) (known_of (calls ++ failed Sync ∷ []))
+  knows-not_synced = record {
+    bytes = ap (λ (known : Known). take end known.bytes) (known-next calls (failed Sync))
+        ∙ take-take end (known_of calls).lasting (known_of calls).bytes lasts;
+    lasting = omega (arith, lasts, ap (λ (known : Known). known.lasting) (known-next calls (failed Sync)));
+  }
 
-pub keeps_first : (from : ℕ) (old new : Known) → from ≤ length old.bytes → KnowsFirst from old new
-    → KeepsFirst from old.bytes new.bytes
-keeps_first from old new le knows = record {
-  there = omega (arith, ap length knows.bytes, length-take from old.bytes);
-  same = ap (take from) knows.bytes ∙ take-take from from old.bytes (omega arith);
-}
-
--- what lasted before the offset still does
-pub lasting_kept : (old : List FileCall) (from : ℕ) (next : List ℕ) (result : Result Unit DeviceFault) (new : List FileCall)
-    → from ≤ length (known_of old).bytes → Stores old from next result new
-    → min from (known_of old).lasting ≤ (known_of new).lasting
-lasting_kept old from next (Ok done) new le stores =
-    subst (λ calls. min from (known_of old).lasting ≤ (known_of calls).lasting) (sym stores.ok)
-    (lasting-stored old from next)
-lasting_kept old from next (Err why) new le stores =
-    (known_of-failed old new from next le stores.err).lasting
-
--- ---- a sync
-
-pub bytes-synced : (old new : List FileCall) → new ≡ old ++ done Sync ∷ []
-    → (known_of new).bytes ≡ (known_of old).bytes
-bytes-synced old new e = ap (λ calls. (known_of calls).bytes) e
-    ∙ ap (λ (known : Known). known.bytes) (known_of-append old (done Sync ∷ []))
+pub bytes-synced : (calls : List FileCall) → (known_of (calls ++ done Sync ∷ [])).bytes ≡ (known_of calls).bytes
+bytes-synced calls = ap (λ (known : Known). known.bytes) (known-next calls (done Sync))
 
 -- all bytes last
-pub lasting-synced : (old new : List FileCall) → new ≡ old ++ done Sync ∷ []
-    → (known_of new).lasting ≡ length (known_of old).bytes
-lasting-synced old new e = ap (λ calls. (known_of calls).lasting) e
-    ∙ ap (λ (known : Known). known.lasting) (known_of-append old (done Sync ∷ []))
-
--- the bytes that lasted stand and last
-pub known_of-not_synced : (old new : List FileCall) → new ≡ old ++ failed Sync ∷ []
-    → KnowsFirst (known_of old).lasting (known_of old) (known_of new)
-known_of-not_synced old new e =
-    let known = ap known_of e ∙ known_of-append old (failed Sync ∷ []) in
-    record {
-      bytes = ap (λ (known : Known). known.bytes) known;
-      lasting = omega (arith, ap (λ (known : Known). known.lasting) known);
-    }
+pub lasting-synced : (calls : List FileCall) → (known_of (calls ++ done Sync ∷ [])).lasting ≡ length (known_of calls).bytes
+lasting-synced calls = ap (λ (known : Known). known.lasting) (known-next calls (done Sync))

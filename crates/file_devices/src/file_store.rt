@@ -11,7 +11,8 @@ ghost use Rattle.file_devices.specs.FileStore.{formatted_between};
 ghost use Rattle.file_devices.specs.FileStore.{Looks, WritesFail, page_write, writes_of};
 ghost use Rattle.file_devices.specs.declared.calls.Request.TheVariants.{SetLen, Sync};
 
-use crate::tracked_file::{FailedFile, TrackedFile};
+use crate::failed_file::FailedFile;
+use crate::tracked_file::TrackedFile;
 use page_core::{Failures, PAGE_BYTES, Page, PageNo};
 use page_store::{MemStore, PageStore, StoreFault};
 use std::fs::File;
@@ -81,7 +82,7 @@ impl FileStore {
                 pages,
                 failures: Failures::None,
             }),
-            Err(error) => Err(FailedFile::new(error, file)),
+            Err(error) => Err(FailedFile::new(error, file.into_calls())),
         }
     }
 

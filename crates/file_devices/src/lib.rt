@@ -2,12 +2,16 @@
 #![tactic(auto)]
 
 mod calls;
+mod failed_file;
+mod file_disk;
 mod file_log;
 mod file_store;
 #[cfg(test)]
 mod tests;
+mod tracked_disk;
 mod tracked_file;
 
+pub use failed_file::FailedFile;
+pub use file_disk::{FileCalls, FileDisk};
 pub use file_log::FileLog;
 pub use file_store::FileStore;
-pub use tracked_file::FailedFile;

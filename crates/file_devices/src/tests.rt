@@ -1,11 +1,13 @@
 //! Tests on real files, of which no clause can speak.
 
 ghost use Rattle.std.specs.Prelude.{◌≡◌, ◌≤◌, ◌<◌, [], length};
+ghost use Rattle.file_devices.specs.FileLog.{bytes_of};
 
 use crate::{FileLog, FileStore};
 use log_store::{DeviceFault, LogDevice};
 use page_core::{Change, Lsn, Page, PageNo, SlotNo};
 use page_store::{MemStore, PageStore, StoreFault};
+use sqlite_disk::{Crash, Disk, Fuse, Memory};
 use std::fs::File;
 use std::io::ErrorKind;
 use std::os::unix::fs::FileExt;
@@ -44,7 +46,7 @@ fn store_again<D: LogDevice>(log: &mut D) -> Result<(), DeviceFault>
 #[test]
 fn a_log_is_cut_before_it_is_stored(rt: HostRuntime) -> Result<(), Fail> {
     let place = own_place(&rt, "log")?;
-    let mut log = FileLog::new(file_of(&rt, &place, &[255; 100])?)?;
+    let mut log = FileLog::new(rt.alloc(), file_of(&rt, &place, &[255; 100])?)?;
     assert_eq!(rt; fs::read(&rt, place.as_path())?.len(), 0);
     store_again(&mut log)?;
     let stored = fs::read(&rt, place.as_path())?;
@@ -58,7 +60,7 @@ fn a_log_goes_on_in_its_file(rt: HostRuntime) -> Result<(), Fail> {
     let place = own_place(&rt, "resumed")?;
     let file = file_of(&rt, &place, b"first last, and what a crash has torn")?;
     let mut front = [0; 10];
-    let mut log = FileLog::resume(file, &mut front)?;
+    let mut log = FileLog::resume(rt.alloc(), file, &mut front)?;
     assert!(rt; front == *b"first last");
     log.store(10, b" of all")?;
     log.sync()?;
@@ -72,7 +74,7 @@ fn a_log_goes_on_in_its_file(rt: HostRuntime) -> Result<(), Fail> {
 fn a_file_that_is_shorter_than_its_log_is_refused(rt: HostRuntime) -> Result<(), Fail> {
     let place = own_place(&rt, "short")?;
     let mut front = [0; 10];
-    let refused = FileLog::resume(file_of(&rt, &place, b"first")?, &mut front);
+    let refused = FileLog::resume(rt.alloc(), file_of(&rt, &place, b"first")?, &mut front);
     assert!(rt; refused.is_err());
     fs::remove_file(&rt, place.as_path())?;
     Ok(())
@@ -82,7 +84,7 @@ fn a_file_that_is_shorter_than_its_log_is_refused(rt: HostRuntime) -> Result<(),
 fn a_file_that_cannot_be_written_is_refused(rt: HostRuntime) -> Result<(), Fail> {
     let place = own_place(&rt, "locked")?;
     let _ = file_of(&rt, &place, b"bytes")?;
-    let refused = FileLog::new(fs::open(&rt, place.as_path())?);
+    let refused = FileLog::new(rt.alloc(), fs::open(&rt, place.as_path())?);
     let why = refused.err().ok_or("the file was emptied")?;
     assert_eq!(rt; why.error.kind(), ErrorKind::InvalidInput);
     assert!(rt; format!(in rt.alloc(); "{why}")? == format!(in rt.alloc(); "{}", why.error)?);
@@ -90,6 +92,63 @@ fn a_file_that_cannot_be_written_is_refused(rt: HostRuntime) -> Result<(), Fail>
     assert!(rt; FileStore::new(fs::open(&rt, place.as_path())?, pages).is_err());
     assert!(rt; fs::read(&rt, place.as_path())?.as_slice() == b"bytes".as_slice());
     fs::remove_file(&rt, place.as_path())?;
+    Ok(())
+}
+
+/// What a log has for certain on a disk that may fail at any call: what its last sync brought there.
+fn forced_on<D: Disk + Drop>(log: &mut FileLog<D>) -> &'static [u8]
+    requires { bytes_of log.old ≡ [] }
+{
+    if log.store(0, b"first").is_err() || log.sync().is_err() {
+        return b"";
+    }
+    if log.store(5, b" second").is_err() || log.store(12, b" third").is_err() {
+        return b"first";
+    }
+    if log.sync().is_err() {
+        return b"first";
+    }
+    b"first second third"
+}
+
+#[test]
+fn what_was_synced_outlasts_a_crash_at_each_call(rt: HostRuntime) -> Result<(), Fail> {
+    let mut longest = 0;
+    for calls in 1..7 {
+        let disk = Fuse::new(Memory::new(rt.alloc()), calls);
+        let mut log = FileLog::emptied(rt.alloc(), disk)?;
+        let forced = forced_on(&mut log);
+        let mut disk = log.into_disk();
+        disk.crash();
+        assert!(rt; disk.inner().bytes().starts_with(forced));
+        longest = forced.len();
+    }
+    assert_eq!(rt; longest, 18);
+    Ok(())
+}
+
+#[test]
+fn a_store_waits_for_the_sync(rt: HostRuntime) -> Result<(), Fail> {
+    let place = own_place(&rt, "waits")?;
+    let mut log = FileLog::new(rt.alloc(), file_of(&rt, &place, b"old")?)?;
+    log.store(0, b"first")?;
+    log.store(5, b" second")?;
+    assert_eq!(rt; fs::read(&rt, place.as_path())?.len(), 0);
+    log.sync()?;
+    let stored = fs::read(&rt, place.as_path())?;
+    assert!(rt; stored.as_slice() == b"first second".as_slice());
+    fs::remove_file(&rt, place.as_path())?;
+    Ok(())
+}
+
+#[test]
+fn nothing_follows_a_sync_that_failed(rt: HostRuntime) -> Result<(), Fail> {
+    let disk = Fuse::new(Memory::new(rt.alloc()), 2);
+    let mut log = FileLog::emptied(rt.alloc(), disk)?;
+    log.store(0, b"first")?;
+    assert!(rt; log.sync() == Err(DeviceFault));
+    assert!(rt; log.store(0, b"again") == Err(DeviceFault));
+    assert!(rt; log.sync() == Err(DeviceFault));
     Ok(())
 }
 

@@ -1,15 +1,14 @@
 //! A file of the system, of which contracts know what it was asked to do.
 
 ghost use Rattle.std.specs.Prelude.{◌≡◌, [], ◌∷◌, ◌++◌, is_ok};
-ghost use Rattle.file_devices.specs.Calls.{call};
+ghost use Rattle.file_devices.specs.Calls.{call, calls_of};
 ghost use Rattle.file_devices.specs.declared.calls.Request.TheVariants.{Read, SetLen, Sync, Write};
 
 use crate::calls::{Calls, Request, SliceSnapshot};
-use std::error::Error;
 use std::fs::File;
+use std::io;
 use std::marker::Model;
 use std::os::unix::fs::FileExt;
-use std::{fmt, io};
 
 /// A file, and what it was asked to do since it was given. No clause can say what a file does, so
 /// each method has one call of it, and the note of that call.
@@ -41,6 +40,14 @@ impl TrackedFile {
             calls: Calls::None,
             error: None,
         }
+    }
+
+    /// What it was asked to do. The file is closed.
+    pub fn into_calls(self) -> Calls
+        ensures { calls_of result ≡ self }
+    {
+        let TrackedFile { calls, .. } = self;
+        calls
     }
 
     /// Why the last call failed, if it did and the system told why.
@@ -101,42 +108,3 @@ impl TrackedFile {
         answer
     }
 }
-
-/// A file on which no device could be made, since a call of it failed. It is closed with this.
-#[derive(Drop)]
-pub struct FailedFile {
-    /// Why it failed, as the system tells it.
-    pub error: io::Error,
-    file: TrackedFile,
-}
-
-impl Model for FailedFile {
-    ghost use Rattle.std.specs.Prelude.{List};
-    ghost use Rattle.file_devices.specs.declared.calls.FileCall.{FileCall};
-
-    ghost Value = { List FileCall };
-
-    ghost view = { λ it. it.file };
-}
-
-impl FailedFile {
-    pub(crate) fn new(error: io::Error, file: TrackedFile) -> FailedFile
-        ensures { result ≡ file }
-    {
-        FailedFile { error, file }
-    }
-}
-
-impl fmt::Debug for FailedFile {
-    fn fmt<W: fmt::Write>(&self, f: &mut fmt::Formatter<W>) -> fmt::Result {
-        fmt::Debug::fmt(&self.error, f)
-    }
-}
-
-impl fmt::Display for FailedFile {
-    fn fmt<W: fmt::Write>(&self, f: &mut fmt::Formatter<W>) -> fmt::Result {
-        fmt::Display::fmt(&self.error, f)
-    }
-}
-
-impl Error for FailedFile {}

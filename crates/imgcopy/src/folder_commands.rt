@@ -1,20 +1,19 @@
-//! The commands `backup`, `verify` and `renew`, which are refused as yet.
+//! The commands `backup`, `verify` and `renew`.
 
+ghost use Rattle.std.specs.Prelude.{◌≡◌};
+
+use crate::output::{parts_of, tell};
 use crate::told_whole;
 use command_words::UsageFault;
+use open_database::{BackupCall, OpenEnd, RenewCall, backup_folder, renew_folder};
+use script_run::FAULT_STATUS;
 use std::process::ExitCode;
 use system_files::EscapedText;
 
 /// Makes a checkpoint and an image copy of the closed database in this folder: on the copy of this
 /// number, or on the newest one, or a full copy.
-pub(crate) fn backup(
-    rt: &HostRuntime,
-    _folder: &str,
-    _on: Option<u32>,
-    _full: bool,
-    _into: Option<&str>,
-) -> ExitCode {
-    refused(rt, "backup")
+pub(crate) fn backup(rt: &HostRuntime, call: &BackupCall<'_>) -> ExitCode {
+    status_of(backup_folder(rt, call))
 }
 
 /// Checks the files of this folder against its manifest, and that its copies restore.
@@ -23,8 +22,20 @@ pub(crate) fn verify(rt: &HostRuntime, _folder: &str) -> ExitCode {
 }
 
 /// Makes a database in the new folder of the numbers of the closed one in the old folder.
-pub(crate) fn renew(rt: &HostRuntime, _old: &str, _new: &str) -> ExitCode {
-    refused(rt, "renew")
+pub(crate) fn renew(rt: &HostRuntime, old: &str, new: &str) -> ExitCode {
+    let path = new.trim_end_matches('/');
+    let Some((folder, name)) = parts_of(path) else {
+        tell(rt, new, &"this names no folder");
+        return ExitCode::from(FAULT_STATUS);
+    };
+    status_of(renew_folder(rt, &RenewCall { old, folder, name }))
+}
+
+fn status_of(end: OpenEnd) -> ExitCode {
+    match end {
+        OpenEnd::Well => ExitCode::SUCCESS,
+        OpenEnd::Refused | OpenEnd::Failed => ExitCode::from(FAULT_STATUS),
+    }
 }
 
 /// Answers what an unknown command would.

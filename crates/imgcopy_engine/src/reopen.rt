@@ -104,7 +104,7 @@ pub fn reopen_files(
 ) -> Result<Reopened, ReopenFault>
     requires frames { IsFrameCount frames }
     ensures goes_on { IfOk result (λ it.
-        GoesOnFromFile log.1 it.cut it.engine.device it.engine.state) }
+        GoesOnFromFile log.1 it.cut it.engine.device.calls it.engine.state) }
     ensures copies { IfOk result (λ it. TakesUp (log_of it.engine.state) copies.items
         it.refused.items it.engine.state.copies) }
 {
@@ -136,7 +136,7 @@ pub fn reopen_files(
 /// off, and that lasts, before a record is stored there: else a loss of power might leave old records
 /// behind new ones.
 fn log_alone(alloc: Global, file: File, len: u64) -> Result<FoundLog, ReopenFault>
-    ensures read { IfOk result (λ it. WasReadWhole len it.bytes.items it.device) }
+    ensures read { IfOk result (λ it. WasReadWhole len it.bytes.items it.device.calls) }
     ensures front { IfOk result (λ it. IsFrontOf it.bytes.items it.front) }
     ensures lasting { IfOk result (λ it. LastsOnFile it.front.log it.device) }
 {

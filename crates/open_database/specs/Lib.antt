@@ -1,5 +1,6 @@
 pub mod Calls
 pub mod Closed
+pub mod ClosedVolume
 pub mod Copies
 pub mod Evidence
 pub mod LeftOut

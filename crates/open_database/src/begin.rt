@@ -79,7 +79,7 @@ fn engine_on<'a>(
     requires formatted { store.store.pages ≡ formatted_pages setup.pages }
     ensures { IfOk result (λ it. it.state ≡ new_state setup.pages setup.frames) }
 {
-    let log = match FileLog::new(log) {
+    let log = match FileLog::new(alloc, log) {
         Ok(log) => log,
         Err(why) => return Err(OpenFault::of_device(Place::Log, &why)),
     };

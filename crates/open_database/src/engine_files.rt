@@ -37,7 +37,7 @@ impl<S: PageStore, D: LogDevice> Source for EngineCopy<'_, S, D> {
 }
 
 /// Puts a file in its place, and has its name last.
-fn place<F: Folder, S: Source>(
+pub(crate) fn place<F: Folder, S: Source>(
     folder: &mut F,
     alloc: Global,
     file: SavedName,

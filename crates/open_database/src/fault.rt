@@ -2,7 +2,7 @@
 
 use crate::evidence::Loss;
 use crate::place::Place;
-use aries_core::NotResumed;
+use aries_core::{NotResumed, Refusal};
 use engine_restart::{FoundFault, FoundLogFault, RestartFault};
 use file_devices::FailedFile;
 use log_store::LogDevice;
@@ -38,6 +38,22 @@ pub(crate) enum OpenFault {
     LogLost(Place),
     /// The log lacks records that were forced.
     Lost(Loss),
+    /// There is no log.
+    NoLog,
+    /// No note of a closing says where the log ends.
+    NotClosed,
+    /// The volume needs so many records, and may need so many.
+    TooFull { needed: u64, most: u64 },
+    /// There is something of this name, where nothing may be.
+    Taken(String),
+    /// The database that was made has other numbers than the one that it was made of.
+    OtherNumbers,
+    /// A call for the new database was refused.
+    Unfilled(Refusal),
+    /// In the second folder this is of another database, or newer.
+    OtherDatabase(Place),
+    /// A file was not put in its place.
+    Unput(Place, FileFault),
     /// There is no log, and something of this name is there.
     Stranger(String),
     /// What has the volume's name is no volume.
@@ -100,10 +116,18 @@ impl OpenFault {
             OpenFault::System(Place::Folder, _)
             | OpenFault::LogOpen
             | OpenFault::NotAside(_)
+            | OpenFault::Unput(_, _)
             | OpenFault::SmallFiles(_) => Some(FaultName::WriteFault),
             OpenFault::Found(_) => Some(FaultName::BadHeader),
             OpenFault::TooLong(_) => Some(FaultName::TooLong),
-            OpenFault::Lost(_)
+            OpenFault::NoLog
+            | OpenFault::NotClosed
+            | OpenFault::TooFull { .. }
+            | OpenFault::Taken(_)
+            | OpenFault::OtherNumbers
+            | OpenFault::Unfilled(_)
+            | OpenFault::OtherDatabase(_)
+            | OpenFault::Lost(_)
             | OpenFault::Stranger(_)
             | OpenFault::NoCount
             | OpenFault::OtherCount { .. } => None,

@@ -48,6 +48,11 @@ impl Inventory {
         Ok(there)
     }
 
+    /// Whether there is a log.
+    pub fn has_log(&self) -> bool {
+        self.has_log
+    }
+
     /// Removes what older lives left unfinished.
     pub fn clear(&self, files: &HostRuntime) -> Result<(), OpenFault> {
         remove_all(files, &self.unfinished).map_err(OpenFault::of_folder)

@@ -2,11 +2,14 @@
 //! It is opened, killed at any moment, and opened again.
 #![tactic(auto)]
 
+mod answered;
+mod backup;
 mod bad_call;
 mod begin;
 mod call_kind;
 mod claims_soon;
 mod closed_note;
+mod closed_volume;
 mod copies;
 mod copy_trouble;
 mod ending;
@@ -14,6 +17,7 @@ mod engine_files;
 mod evidence;
 mod fault;
 mod file_limit;
+mod fill;
 mod first_line;
 mod found_copies;
 mod found_master;
@@ -27,13 +31,18 @@ mod names;
 mod open;
 mod pending;
 mod place;
+mod renew;
 mod restarted;
 mod said;
+mod second_folder;
 mod session;
 mod tally;
 mod told;
 mod told_store;
 mod unplaced_point;
 mod volume_file;
+mod whole_file;
 
+pub use backup::{BackupCall, backup_folder};
 pub use open::{OpenCall, OpenEnd, open_folder};
+pub use renew::{RenewCall, renew_folder};

@@ -43,10 +43,26 @@ pub(crate) fn of_log(error: io::Error) -> OpenFault {
 /// Opens the file of the log in a folder, if it is there, and locks it: a log that has two names, by
 /// a link, is open once.
 pub(crate) fn open_log(files: &HostRuntime, folder: &str) -> Result<Option<LogFile>, OpenFault> {
+    open_log_for(files, folder, true)
+}
+
+/// The same, where the file is only read.
+pub(crate) fn open_log_to_read(
+    files: &HostRuntime,
+    folder: &str,
+) -> Result<Option<LogFile>, OpenFault> {
+    open_log_for(files, folder, false)
+}
+
+fn open_log_for(
+    files: &HostRuntime,
+    folder: &str,
+    writes: bool,
+) -> Result<Option<LogFile>, OpenFault> {
     let path = Path::new(folder).join(files.alloc(), LOG)?;
     let opened = File::options()
         .read(true)
-        .write(true)
+        .write(writes)
         .open(files, path.as_path());
     let file = match opened {
         Ok(file) => file,

@@ -100,7 +100,7 @@ pub fn open_folder(rt: &HostRuntime, call: &OpenCall<'_>) -> OpenEnd
 }
 
 /// Files that stand for the standard streams where these are closed.
-fn held(rt: &HostRuntime) -> [io::Result<File>; 3] {
+pub(crate) fn held(rt: &HostRuntime) -> [io::Result<File>; 3] {
     [
         fs::open(rt, "/dev/null"),
         fs::open(rt, "/dev/null"),
@@ -109,7 +109,7 @@ fn held(rt: &HostRuntime) -> [io::Result<File>; 3] {
 }
 
 /// Claims the folder and opens the database in it.
-fn opened<'a, F: ClaimsSoon>(
+pub(crate) fn opened<'a, F: ClaimsSoon>(
     teller: &Teller<'_>,
     folder: &mut F,
     call: &OpenCall<'_>,
@@ -246,7 +246,7 @@ fn served<'a>(
 }
 
 /// An open database, whose log and volume are files.
-type FileSession<'a> = Session<'a, SystemFolder<'a>, ToldStore<'a>, FileLog>;
+pub(crate) type FileSession<'a> = Session<'a, SystemFolder<'a>, ToldStore<'a>, FileLog>;
 
 /// Puts the master record in place, answers all lines, and closes the database.
 fn live(session: &mut FileSession<'_>, first: FirstLine, point: Option<Point>)
@@ -262,7 +262,7 @@ fn live(session: &mut FileSession<'_>, first: FirstLine, point: Option<Point>)
 }
 
 /// Puts the master record of the log's last checkpoint in place, if it is not there.
-fn put_point(session: &mut FileSession<'_>, point: Option<Point>)
+pub(crate) fn put_point(session: &mut FileSession<'_>, point: Option<Point>)
     ensures { session.new.engine ≡ session.old.engine }
 {
     let Some(point) = point else {

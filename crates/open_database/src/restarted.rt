@@ -4,7 +4,7 @@ ghost use Rattle.std.specs.Prelude.{◌≡◌, ◌≢◌, [], false, IfOk, None,
 ghost use Rattle.buffer_pool.specs.Pool.{IsFrameCount};
 ghost use Rattle.engine_restart.specs.LogFile.{LastsOnFile};
 ghost use Rattle.engine_restart.specs.Restart.{undone_log};
-ghost use Rattle.file_devices.specs.FileLog.{known_of};
+ghost use Rattle.file_devices.specs.FileLog.{bytes_of};
 ghost use Rattle.log_front.specs.Front.{IsFrontOf, end_of};
 ghost use Rattle.log_records.specs.Log.{IsLog, IsPageCount, log_bytes, page_count};
 ghost use Rattle.log_rules.specs.Linked.{IsLinked};
@@ -35,6 +35,7 @@ use crate::volume_file::{check_volume, volume_of};
 use engine_restart::{FoundLog, Restarted, found_log, restart, store_of};
 use file_devices::FileLog;
 use fuzzy_ckpt::{Point, checkpoints_of};
+use log_front::Front;
 use log_records::Record;
 use log_store::LogImage;
 use page_core::Lsn;
@@ -64,10 +65,10 @@ struct Remains {
 
 /// What was found beside the log.
 #[derive(Drop)]
-struct Others {
-    note: Option<ClosedNote>,
-    master: FoundMaster,
-    copies: Vec<CopyFile>,
+pub(crate) struct Others {
+    pub note: Option<ClosedNote>,
+    pub master: FoundMaster,
+    pub copies: Vec<CopyFile>,
 }
 
 /// Opens a database again from the file of its log, and from those of the copies there that are
@@ -109,7 +110,8 @@ fn find(teller: &Teller<'_>, log: LogFile, there: &Inventory) -> Result<Remains,
     }
 }
 
-fn find_others(teller: &Teller<'_>, there: &Inventory) -> Result<Others, OpenFault>
+/// Reads what stands beside the log.
+pub(crate) fn find_others(teller: &Teller<'_>, there: &Inventory) -> Result<Others, OpenFault>
     ensures { IfOk result (λ it.
         map (λ file. file.id) it.copies.items ≡ there.now.copies.items) }
 {
@@ -159,7 +161,7 @@ fn prepare<F: Folder>(
         → WasKept (behind remains.old.log) (F.entries folder.new)) }
     // and is gone from the log's for certain, before any record is stored there.
     ensures alone { OnOk result (remains.old.log.front.cut ≢ None
-        → (known_of remains.new.log.device).bytes ≡ log_bytes remains.new.log.front.log) }
+        → bytes_of remains.new.log.device ≡ log_bytes remains.new.log.front.log) }
     ensures claimed { F.is_claimed folder.new }
 {
     check_count(call, remains.log.front.log().page_count())?;
@@ -190,7 +192,8 @@ fn check_loss(
         remains.now.others.note (spelled remains.now.others.master)
         remains.now.others.copies.items remains.now.log.bytes.items) }
 {
-    let loss = loss_of(teller.rt.alloc(), remains)?;
+    let (found, others) = (&remains.log, &remains.others);
+    let loss = loss_of(teller.rt.alloc(), &found.front, &found.bytes, others)?;
     if loss.claims.is_empty() {
         return Ok(loss);
     }
@@ -201,18 +204,22 @@ fn check_loss(
     Err(OpenFault::Lost(loss))
 }
 
-fn loss_of(alloc: Global, remains: &Remains) -> Result<Loss, AllocError>
+/// Hears all that knows how far a log went whose front in these bytes this is.
+pub(crate) fn loss_of(
+    alloc: Global,
+    front: &Front,
+    bytes: &[u8],
+    others: &Others,
+) -> Result<Loss, AllocError>
     ensures { IfOk result (λ loss. loss.claims.items ≡ []
-        → LacksNothing (end_of remains.now.log.front.log)
-        remains.now.others.note (spelled remains.now.others.master)
-        remains.now.others.copies.items remains.now.log.bytes.items) }
+        → LacksNothing (end_of front.now.log) others.now.note (spelled others.now.master)
+        others.now.copies.items bytes.now) }
 {
-    let (found, others) = (&remains.log, &remains.others);
-    let mut loss = Loss::new(alloc, found.front.log().end(), found.front.cut());
+    let mut loss = Loss::new(alloc, front.log().end(), front.cut());
     loss.hear_note(others.note)?;
     loss.hear_master(others.master.spelled())?;
     loss.hear_copies(&others.copies)?;
-    loss.look_behind(&found.bytes)?;
+    loss.look_behind(bytes)?;
     Ok(loss)
 }
 
@@ -254,7 +261,7 @@ fn settle<F: Folder>(
         → IsKept (F.entries folder.old) (behind remains.old.log) (F.entries folder.new)) }
     // and is gone from the log's for certain, before any record is stored there.
     ensures alone { OnOk result (remains.old.log.front.cut ≢ None
-        → (known_of remains.new.log.device).bytes ≡ log_bytes remains.new.log.front.log) }
+        → bytes_of remains.new.log.device ≡ log_bytes remains.new.log.front.log) }
     ensures claimed { F.is_claimed folder.new }
 {
     keep_behind(teller, folder, &remains.log)?;
@@ -309,7 +316,7 @@ fn keep_front(found: &mut FoundLog) -> Result<(), OpenFault>
     ensures front { found.new.front ≡ found.old.front }
     ensures lasting { OnOk result (LastsOnFile found.new.front.log found.new.device) }
     ensures alone { OnOk result
-        ((known_of found.new.device).bytes ≡ log_bytes found.new.front.log) }
+        (bytes_of found.new.device ≡ log_bytes found.new.front.log) }
 {
     match found.keep_front() {
         Ok(()) => Ok(()),
@@ -318,7 +325,7 @@ fn keep_front(found: &mut FoundLog) -> Result<(), OpenFault>
 }
 
 /// Whether the note of a clean closing says that the log lasts to its end.
-fn is_vouched(note: Option<ClosedNote>, end: Lsn) -> bool {
+pub(crate) fn is_vouched(note: Option<ClosedNote>, end: Lsn) -> bool {
     match note {
         Some(note) => note.end == end,
         None => false,

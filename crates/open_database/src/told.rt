@@ -5,6 +5,7 @@ use crate::fault::OpenFault;
 use crate::place::Place;
 use crate::session::ServeFault;
 use engine_restart::{FoundFault, RestartFault};
+use event_script::ReplyLine;
 use log_front::{Cut, CutReason};
 use log_records::MAX_LOG_BYTES;
 use log_store::LogReadFault;
@@ -119,6 +120,7 @@ impl Teller<'_> {
             OpenFault::Unclaimed(why) => self.tell(Place::Folder, why),
             OpenFault::System(place, code) => self.tell_system(*place, *code),
             OpenFault::Lost(loss) => self.tell_lost(loss),
+            OpenFault::Unput(place, why) => self.tell_unkept(*place, *why, notes),
             OpenFault::LogLost(place) => self.tell(*place, &"this is there, but no log"),
             OpenFault::NotAside(why) => match notes.error() {
                 Some(error) => self.tell_not_aside(&error),
@@ -172,6 +174,24 @@ impl Teller<'_> {
                 );
             }
             OpenFault::NoRoom => self.tell(Place::Log, &"no engine has made such a log"),
+            OpenFault::NoLog => self.tell(Place::Log, &"there is no log"),
+            OpenFault::NotClosed => self.tell(
+                Place::Folder,
+                &"it was not closed: open it once, and end its input",
+            ),
+            OpenFault::TooFull { needed, most } => self.tell_full(*needed, *most),
+            OpenFault::Taken(name) => self.tell_taken(name.as_str()),
+            OpenFault::OtherDatabase(place) => self.tell(
+                *place,
+                &"this is of another database, or newer: name another folder",
+            ),
+            OpenFault::OtherNumbers => {
+                self.tell(Place::Folder, &"it has other numbers than the old one");
+            }
+            OpenFault::Unfilled(why) => {
+                let line = ReplyLine(Err(*why));
+                self.tell(Place::Folder, &format_args!("it was not filled: {line}"));
+            }
             OpenFault::OutOfMemory
             | OpenFault::Found(FoundFault::OutOfMemory)
             | OpenFault::Restart(RestartFault::OutOfMemory, _) => {
@@ -210,6 +230,21 @@ impl Teller<'_> {
             &format_args!(
                 "there is no log, but `{name}`: name an empty folder, or one with a database"
             ),
+        );
+    }
+
+    fn tell_full(&self, needed: u64, most: u64) {
+        self.tell(
+            Place::Volume,
+            &format_args!("its numbers need {needed} records, and {most} is half of a log"),
+        );
+    }
+
+    fn tell_taken(&self, name: &str) {
+        let name = Escaped(name);
+        self.tell(
+            Place::Folder,
+            &format_args!("`{name}` is there: name a folder that is not, or move this one away"),
         );
     }
 

@@ -42,8 +42,8 @@ returns-in-Ok-into_engine c =
       goes_on = record {
         bytes = bytes;
         log = found.front.log;
-        read = subst (WasReadWhole c.args.log.1 bytes) (sym it.ensures.device)
-            (still_read c.args.log.1 bytes found.device undone.1 c.in_ok-front.ensures.read go_on);
+        read = rw it.ensures.device
+            (still_read c.args.log.1 bytes found.device.calls undone.1.calls c.in_ok-front.ensures.read go_on);
         front = subst (λ (cut : Option Cut). IsFrontOf bytes (record { log = found.front.log; cut = cut }))
             (sym c.cut-cut.ensures) c.in_ok-front.ensures.front;
         goes_on = subst (λ (l : Log). GoesOnFrom l it.engine.state)

@@ -1,8 +1,7 @@
-use Rattle.std.proofs.Common.{◌<◌, ◌≤◌, ℕ, ap, subst, ◌∙◌}
+use Rattle.std.proofs.Common.{◌<◌, ap, subst, ◌∙◌}
 use Rattle.std.specs.Prelude.{IfSome}
 use Rattle.std.specs.List.{All}
 use Rattle.log_front.specs.Front.{end_of}
-use Rattle.log_front.specs.Remains.{WasForced}
 use Rattle.open_database.specs.Evidence.{Hears, IsFileWithin}
 use Rattle.open_database.specs.Master.{spelled}
 use Rattle.open_database.proofs.Whole.{heard_all}
@@ -10,7 +9,7 @@ use Rattle.open_database.proofs.restarted.loss_of.Goals as goal
 
 pub returns : goal.returns
 returns c =
-    let remains = c.args.remains.now in
+    let others = c.args.others.now in
     let e0 = c.new-loss.result.end in
     let e1 = c.hear_note.new.self.end in
     let e2 = c.hear_master.new.self.end in
@@ -20,8 +19,8 @@ returns c =
     let c2 = c.hear_master.new.self.claims.items in
     let c3 = c.hear_copies.new.self.claims.items in
     let c4 = c.look_behind.new.self.claims.items in
-    heard_all (end_of remains.log.front.log) e0 e1 e2 e3 c0 c1 c2 c3 c4 remains.others.note (spelled remains.others.master)
-    remains.others.copies.items remains.log.bytes.items
+    heard_all (end_of c.args.front.now.log) e0 e1 e2 e3 c0 c1 c2 c3 c4 others.note (spelled others.master)
+    others.copies.items c.args.bytes.now
     (c.new-loss.ensures.end ∙ c.end.ensures ∙ ap end_of c.log.ensures.log)
     c.hear_note.ensures.end c.hear_master.ensures.end c.hear_copies.ensures.end
     c.in_ok-hear_note.ensures.heard
@@ -29,5 +28,4 @@ returns c =
     c.in_ok-hear_master.ensures.heard)
     (subst (λ files. Hears c2 c3 (All (IsFileWithin e2) files)) c.deref.ensures.value
     c.in_ok-hear_copies.ensures.heard)
-    (subst (λ bytes. Hears c3 c4 ((at : ℕ) → e3 ≤ at → ¬ WasForced bytes at)) c.deref-2.ensures.value
-    c.in_ok-look_behind.ensures.heard)
+    c.in_ok-look_behind.ensures.heard

@@ -1,7 +1,7 @@
 use Rattle.std.proofs.Common.{◌≡◌, ◌≤◌, length, take, arith, ap, ◌∙◌}
 use Rattle.std.proofs.lemmas.List.{length-take}
 use Rattle.log_records.specs.Log.{Log, log_bytes, lsn_of}
-use Rattle.file_devices.specs.FileLog.{known_of}
+use Rattle.file_devices.specs.FileLog.{bytes_of}
 use Rattle.engine_restart.proofs.LogFiles.{both_ok, front_there, has_alone}
 use Rattle.engine_restart.proofs.log_file.FoundLog.keep_front.Goals as goal
 
@@ -28,6 +28,6 @@ returns-clause-lasting c =
     ∙ ap (take (lsn_of (length found.front.log.records))) c.deref.ensures.value
     ∙ found.spelled in
     both_ok c.keep.result _ _ _
-    (λ has lasts. has_alone (λ calls. (known_of calls).bytes) (λ calls. (known_of calls).lasting) found.front.log
+    (λ has lasts. has_alone bytes_of (λ it. it.end) found.front.log
     c.keep.new.self front has lasts is)
     c.keep.ensures.bytes c.keep.ensures.lasts

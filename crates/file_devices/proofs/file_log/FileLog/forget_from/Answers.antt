@@ -1,0 +1,30 @@
+use Rattle.std.proofs.Common.{rules, ◌≡◌, ◌+◌, ◌-◌, ◌^◌, ◌<◌, ◌≤◌, [], ◌∷◌, ◌++◌, length, take, ap, refl, sym, subst, ◌∙◌, arith}
+use Rattle.std.proofs.lemmas.List.{length-take}
+use Rattle.std.specs.Prelude.{IsTrue, is_ok, true, false}
+use Rattle.file_devices.specs.Calls.{call, done}
+use Rattle.file_devices.specs.FileLog.{IsTrusted, LogOnDisk, bytes_of, known_of, synced_of}
+use Rattle.file_devices.specs.TrackedDisk.{Begins}
+use Rattle.file_devices.specs.declared.calls.Request.TheVariants.{SetLen, Sync, Write}
+use Rattle.file_devices.proofs.Kept.{front_of_both, front_of_synced, kept_alone, kept_next, kept_settled, length-bytes, length-synced, never, three_calls, when_ok}
+use Rattle.file_devices.proofs.Knowns.{KnowsFirst, bytes-cut, bytes-written, knows-cut, knows-written, lasting_there}
+use Rattle.file_devices.proofs.file_log.FileLog.forget_from.Goals as goal
+
+pub returns-then-from-self-clause-bytes : goal.returns-then-from-self-clause-bytes
+returns-then-from-self-clause-bytes g c =
+    let known = known_of c.self.inside.disk.calls in
+    let there : c.self.inside.end ≤ length known.bytes =
+    omega (arith, c.self.invariant.lasts, lasting_there c.self.inside.disk.calls) in
+    let low : c.args.from ≤ c.self.inside.end = search rules in
+    ap (λ (v : LogOnDisk g.row.D.Denot). bytes_of v) c.give_up.ensures.left
+    ∙ ap (λ (v : LogOnDisk g.row.D.Denot). take c.args.from (known_of v.calls).bytes ++ []) (sym c.self.view_is)
+    ∙ front_of_synced known.bytes c.self.inside.waiting.items c.args.from c.self.inside.end there low
+    ∙ ap (λ (v : LogOnDisk g.row.D.Denot). take c.args.from (bytes_of v)) c.self.view_is
+
+pub returns-clause-bytes : goal.returns-clause-bytes
+returns-clause-bytes g c =
+    let synced = take c.self.inside.end (known_of c.self.inside.disk.calls).bytes in
+    let high : c.self.inside.end ≤ c.args.from = search rules in
+    ap (λ w. synced ++ w) c.truncate.ensures.items
+    ∙ front_of_both synced c.self.inside.waiting.items c.args.from c.self.inside.end (length-synced _ c.self.invariant)
+    high
+    ∙ ap (λ (v : LogOnDisk g.row.D.Denot). take c.args.from (bytes_of v)) c.self.view_is

@@ -1,0 +1,21 @@
+use Rattle.std.proofs.Common.{◌∙◌, subst, sym}
+use Rattle.std.specs.Prelude.{Option}
+use Rattle.log_front.specs.Front.{IsFrontOf}
+use Rattle.log_front.specs.declared.cut.Cut.{Cut}
+use Rattle.log_records.specs.Log.{IsPageCount}
+use Rattle.log_records.proofs.Public.{page_count-is_count}
+use Rattle.engine_rules.proofs.Refusals.{none_by_test}
+use Rattle.open_database.proofs.closed_volume.volume_in.Goals as goal
+
+pub returns-in-Ok-committed_pages : goal.returns-in-Ok-committed_pages
+returns-in-Ok-committed_pages c =
+    let log = c.in-Ok.front.log in
+    let found = c.in-Ok.ensures.front in
+    let count = c.in-Ok-committed_pages.ensures.counted in record {
+      log = log;
+      all = subst (λ (cut : Option Cut). IsFrontOf c.args.bytes.now (record { log = log; cut = cut })) (sym c.cut.ensures ∙ none_by_test c.cut.result (sym c.is_some.ensures ∙ c.if-is_some.false)) found;
+      lacks = c.in_ok-check_kept.ensures;
+      count = count;
+      counted = subst IsPageCount (sym count) (page_count-is_count log found.longest.front.spells.valid);
+      committed = c.in-Ok-committed_pages.ensures.committed;
+    }

@@ -1,0 +1,103 @@
+//! The volume of a closed database, which is read and left as it is.
+
+ghost use Rattle.std.specs.Prelude.{◌≡◌, IfOk, IsTrue, OnOk, length};
+ghost use Rattle.log_front.specs.Front.{end_of};
+ghost use Rattle.log_records.specs.Log.{IsPageCount};
+ghost use Rattle.open_database.specs.ClosedVolume.{HaveSameNumbers, IsLeftBy};
+ghost use Rattle.open_database.specs.Evidence.{LacksNothing};
+ghost use Rattle.open_database.specs.Master.{spelled};
+
+use crate::fault::OpenFault;
+use crate::inventory::Inventory;
+use crate::log_file::{LogFile, of_log, open_log_to_read};
+use crate::restarted::{Others, find_others, is_vouched, loss_of};
+use crate::told::Teller;
+use engine_restart::{FoundFault, FoundLogFault, MAX_FILE_BYTES, committed_pages, log_in};
+use log_front::Front;
+use page_core::{Page, zeros};
+use std::alloc::Global;
+use std::os::unix::fs::FileExt;
+
+/// The pages of the closed database in a folder that is claimed, in order of their numbers, each slot
+/// with its committed number. Nothing is changed there.
+///
+/// A database is closed where the note of its closing says where its log ends, and nothing that
+/// stands beside it knows of more.
+pub(crate) fn read_closed(teller: &Teller<'_>) -> Result<Vec<Page>, OpenFault>
+    ensures { IfOk result (λ pages. IsPageCount (length pages.items)) }
+{
+    let there = Inventory::of(teller.rt, teller.folder)?;
+    if let (Some(place), false) = (there.widow(), there.has_log()) {
+        return Err(OpenFault::LogLost(place));
+    }
+    let Some(log) = open_log_to_read(teller.rt, teller.folder)? else {
+        return Err(OpenFault::NoLog);
+    };
+    let bytes = bytes_of(teller.rt.alloc(), &log)?;
+    let others = find_others(teller, &there)?;
+    volume_in(teller.rt.alloc(), &bytes, &others)
+}
+
+/// All bytes of a log's file.
+fn bytes_of(alloc: Global, log: &LogFile) -> Result<Vec<u8>, OpenFault>
+    ensures { IfOk result (λ bytes. length bytes.items ≡ log.now.len) }
+{
+    if log.len > MAX_FILE_BYTES as u64 {
+        return Err(OpenFault::TooLong(log.len));
+    }
+    let mut bytes = zeros(alloc, log.len as usize)?;
+    match log.file.read_exact_at(&mut bytes, 0) {
+        Ok(()) => Ok(bytes),
+        Err(error) => Err(of_log(error)),
+    }
+}
+
+/// The pages that the log in these bytes leaves, where that is all of them, and what stands beside it
+/// vouches for its end.
+fn volume_in(alloc: Global, bytes: &[u8], others: &Others) -> Result<Vec<Page>, OpenFault>
+    ensures { IfOk result (λ pages. IsLeftBy bytes.now others.now.note
+        (spelled others.now.master) others.now.copies.items pages.items) }
+{
+    let front = match log_in(alloc, bytes) {
+        Ok(front) => front,
+        Err(why) => return Err(OpenFault::Found(why)),
+    };
+    check_kept(alloc, &front, bytes, others)?;
+    if front.cut().is_some() {
+        return Err(OpenFault::NotClosed);
+    }
+    if !is_vouched(others.note, front.log().end()) {
+        return Err(OpenFault::NotClosed);
+    }
+    match committed_pages(front) {
+        Ok(pages) => Ok(pages),
+        Err(why) => Err(OpenFault::Restart(why, None)),
+    }
+}
+
+/// Sees that nothing which stands beside a log, or behind it, knows of more than it has.
+fn check_kept(alloc: Global, front: &Front, bytes: &[u8], others: &Others) -> Result<(), OpenFault>
+    ensures { OnOk result (LacksNothing (end_of front.now.log) others.now.note
+        (spelled others.now.master) others.now.copies.items bytes.now) }
+{
+    let loss = loss_of(alloc, front, bytes, others)?;
+    if loss.claims.is_empty() {
+        return Ok(());
+    }
+    Err(OpenFault::Lost(loss))
+}
+
+/// Whether both volumes have as many pages, and each slot the same number.
+pub(crate) fn have_same_numbers(old: &[Page], new: &[Page]) -> bool
+    ensures { IsTrue result → HaveSameNumbers old.now new.now }
+{
+    if old.len() != new.len() {
+        return false;
+    }
+    for place in 0..old.len() {
+        if old[place].slots != new[place].slots {
+            return false;
+        }
+    }
+    true
+}
