@@ -7,4 +7,5 @@ pub mod Restored
 mod Saved
 mod SavedFaults
 mod Undoing
+mod Untils
 mod WithLog

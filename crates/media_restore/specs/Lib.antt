@@ -8,3 +8,4 @@ pub mod Load
 pub mod MasterCheck
 pub mod Rebuild
 pub mod Saved
+pub mod Until

@@ -14,6 +14,9 @@ mod master_check;
 mod master_laws;
 mod rebuilt;
 mod saved_laws;
+mod until;
+mod until_fault;
+mod until_laws;
 mod with_log_fault;
 
 pub use audit_laws::an_audited_chain_restores_the_log;
@@ -32,4 +35,7 @@ pub use rebuilt::{Rebuilt, rebuild, recover};
 pub use saved_laws::{
     saved_files_are_right, saved_files_restore_what_was_committed, what_is_left_can_be_saved,
 };
+pub use until::{checkpoint_until, redo_until};
+pub use until_fault::UntilFault;
+pub use until_laws::one_log_ends_there;
 pub use with_log_fault::WithLogFault;
