@@ -8,3 +8,4 @@ pub mod PutFault
 pub mod PutStored
 pub mod Restored
 pub mod Saved
+pub mod UntilFiles

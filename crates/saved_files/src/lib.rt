@@ -28,6 +28,7 @@ mod save_fault;
 mod saved_name;
 mod source;
 mod told;
+mod until_files;
 
 pub use all_pages::unsound_pages;
 pub use failing_calls::FailingCalls;
@@ -51,3 +52,4 @@ pub use save::save_files;
 pub use save_fault::SaveFault;
 pub use saved_name::SavedName;
 pub use source::Source;
+pub use until_files::{UntilFile, UntilFiles};

@@ -4,8 +4,11 @@ use Rattle.log_front.specs.Front.{IsFrontOf}
 use Rattle.log_front.specs.declared.cut.Cut.{Cut}
 use Rattle.log_records.specs.Log.{IsPageCount}
 use Rattle.log_records.proofs.Public.{page_count-is_count}
-use Rattle.engine_rules.proofs.Refusals.{none_by_test}
 use Rattle.open_database.proofs.closed_volume.volume_in.Goals as goal
+
+none_by_test : {X : Type 0} (o : Option X) → is_some o ≡ false → o ≡ None
+none_by_test None is = refl
+none_by_test (Some x) is = absurd (true≢false is)
 
 pub returns-in-Ok-committed_pages : goal.returns-in-Ok-committed_pages
 returns-in-Ok-committed_pages c =
