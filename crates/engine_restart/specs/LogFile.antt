@@ -31,7 +31,7 @@ KeepsFront front old new =
 
 -- by the calls that were made of it a file begins with this log, and all of it lasts there
 abbrev pub LastsOnFile : {D : Type 0} → Log → LogOnDisk D → Type 0
-LastsOnFile {D} log file = HasLasting (bytes_of {D}) (λ it. it.end) log file
+LastsOnFile log file = HasLasting bytes_of (λ it. it.end) log file
 
 -- why no log was found in a file of so many bytes: they are more than are read; or the file failed
 -- to give them all or to sync; or it gave them, and they have none
