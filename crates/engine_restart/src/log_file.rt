@@ -56,7 +56,7 @@ impl FoundLog {
             (bytes_of self.new.device ≡ log_bytes self.new.front.log) }
         ensures calls { OnOk result
             (KeepsFront (log_bytes self.old.front.log)
-                self.old.device.calls self.new.device.calls) }
+            self.old.device.calls self.new.device.calls) }
         ensures failed { OnErr result
             (KeepFails self.old.device (log_bytes self.old.front.log) self.new.device) }
     {

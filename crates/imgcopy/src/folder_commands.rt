@@ -1,7 +1,5 @@
 //! The commands `backup`, `verify` and `renew`.
 
-ghost use Rattle.std.specs.Prelude.{◌≡◌};
-
 use crate::output::{parts_of, tell};
 use crate::told_whole;
 use command_words::UsageFault;
@@ -13,6 +11,10 @@ use system_files::EscapedText;
 /// Makes a checkpoint and an image copy of the closed database in this folder: on the copy of this
 /// number, or on the newest one, or a full copy.
 pub(crate) fn backup(rt: &HostRuntime, call: &BackupCall<'_>) -> ExitCode {
+    if call.full && call.on.is_some() {
+        tell(rt, call.folder, &"--on and --full exclude one another");
+        return ExitCode::from(FAULT_STATUS);
+    }
     status_of(backup_folder(rt, call))
 }
 

@@ -32,7 +32,7 @@ use event_script::MAX_SCRIPT_BYTES;
 use file_view::{Form, Wanted};
 use folder_commands::{backup, renew, verify};
 use list::list;
-use open_database::{OpenCall, OpenEnd, open_folder};
+use open_database::{BackupCall, OpenCall, OpenEnd, open_folder};
 use output::{Inputs, Limits, tell_output};
 use output_folder::OutputFolder;
 use page_core::{FaultName, Lsn, PageNo, TxnNo};
@@ -159,7 +159,15 @@ fn main(rt: HostRuntime) -> ExitCode {
                 full,
                 into,
             },
-        ) => backup(&rt, folder, on, full, into),
+        ) => {
+            let call = BackupCall {
+                folder,
+                on,
+                full,
+                into,
+            };
+            backup(&rt, &call)
+        }
         Ok(Command::Verify { folder }) => verify(&rt, folder),
         Ok(Command::Renew { old, new }) => renew(&rt, old, new),
         Ok(Command::Version) => answered(&rt, &Version, 0),

@@ -5,3 +5,4 @@ mod Served
 mod TakingUp
 mod Waiting
 mod Whole
+mod WordRuns

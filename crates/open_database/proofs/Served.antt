@@ -18,12 +18,17 @@ use Rattle.open_database.specs.Calls.{IsAnyReply, IsOfClosing, IsPlain, Lives, M
 use Rattle.open_database.specs.MadeFiles.{StepsAndSays}
 use Rattle.open_database.specs.Said.{said_line}
 use Rattle.open_database.specs.Session.{LeavesLast, LeavesServed, LeavesTaken, LivesByLines}
-use Rattle.open_database.specs.Session.{Says, Serves, ServesLines, Takes, all_served, bad_not_told, bad_told, call_told}
-use Rattle.open_database.specs.Session.{WritesBad, not_taken, not_told, nothing_told, one_left}
+use Rattle.open_database.specs.Session.{Says, SaysCall, Serves, ServesLines, Takes, all_served, bad_not_told, bad_told}
+use Rattle.open_database.specs.Session.{WritesBad, call_told, not_taken, not_told, nothing_told, one_left}
+use Rattle.open_database.specs.Session.{word_not_told, word_told}
+use Rattle.open_database.specs.Words.{MakesWord, Spells, Told, text_of}
 use Rattle.open_database.specs.declared.bad_call.LineTrouble.{LineTrouble}
+use Rattle.open_database.specs.declared.order.Order.{Order}
+use Rattle.open_database.specs.declared.order.Order.TheVariants as order
 use Rattle.open_database.specs.declared.said.Said.{Said}
 use Rattle.open_database.specs.declared.said.Said.TheVariants.{Reply}
 use Rattle.open_database.specs.declared.session.ServeFault.{ServeFault}
+use Rattle.open_database.specs.declared.word.Word.{Word}
 
 -- any replies will do
 All-from_unit : (replies : List (Result Answer Refusal)) → All IsAnyReply replies
@@ -69,7 +74,7 @@ served_none s written = record {
 }
 
 served_call : (old mid new : EngineState) (before text after : Option (List ℕ)) (line : List ℕ) (event : Event)
-    (said : Said) → Serves old mid before text → Says line (Some event) → Makes event mid said new
+    (said : Said) → Serves old mid before text → SaysCall line (Some event) → Makes event mid said new
     → Appends text after (said_line said) → Serves old new before after
 served_call old mid new before text after line event said so_far says made writes = record {
   events = so_far.events ++ made.events;
@@ -78,6 +83,18 @@ served_call old mid new before text after line event said so_far says made write
   run = run_append old mid new so_far.events made.events so_far.replies made.replies so_far.run made.run;
   told = call_told so_far.events made.events so_far.replies made.replies text after line event said so_far.told
       says made.says writes;
+}
+
+served_word : (old mid new : EngineState) (before text after : Option (List ℕ)) (line : List ℕ) (word : Word)
+    (told : Told) → Serves old mid before text → Spells line word → MakesWord word mid told new
+    → Appends text after (text_of told) → Serves old new before after
+served_word old mid new before text after line word told so_far spells made writes = record {
+  events = so_far.events ++ made.events;
+  replies = so_far.replies ++ made.replies;
+  fit = All-append EventFits so_far.events made.events so_far.fit made.fit;
+  run = run_append old mid new so_far.events made.events so_far.replies made.replies so_far.run made.run;
+  told = word_told so_far.events made.events so_far.replies made.replies text after line word told so_far.told
+      spells made.holds writes;
 }
 
 served_bad : (old new : EngineState) (before text after : Option (List ℕ)) (number : ℕ) → Serves old new before text
@@ -99,26 +116,34 @@ handed_on (Err f) fault Q is h = subst Q (sym is) h
 module _ (old mid new : EngineState) (before text after : Option (List ℕ)) (line : List ℕ) (number : ℕ)
     (entries : Option Entries) (is_stored : Type 0) (so_far : Serves old mid before text) where
   -- one more line was taken
-  pub served_more : (said : Result (Option Event) LineTrouble) → IfOk said (Says line)
+  pub served_more : (said : Result (Option Order) LineTrouble) → IfOk said (Says line)
       → Takes number said mid new entries is_stored text after → Serves old new before after
   served_more (Ok None) says same =
       subst (λ (s : EngineState). Serves old s before after) (sym same.0)
       (subst (λ (w : Option (List ℕ)). Serves old mid before w) (sym same.1) so_far)
-  served_more (Ok (Some event)) says answers =
+  served_more (Ok (Some (order.Call event))) says answers =
       served_call old mid new before text after line event answers.said so_far says answers.made answers.written
+  served_more (Ok (Some (order.Word word))) says takes =
+      served_word old mid new before text after line word takes.told so_far says takes.made takes.written
   served_more (Err why) says bad =
       subst (λ (s : EngineState). Serves old s before after) (sym bad.0)
       (served_bad old mid before text after number so_far bad.1)
 
   -- one was left
-  pub left_more : (said : Result (Option Event) LineTrouble) (fault : ServeFault)
+  pub left_more : (said : Result (Option Order) LineTrouble) (fault : ServeFault)
       → LeavesTaken number said mid new entries is_stored text after fault → LeavesServed old new before after fault
   left_more (Ok None) fault left = absurd left
-  left_more (Ok (Some event)) fault left = record {
+  left_more (Ok (Some (order.Call event))) fault left = record {
     engine = mid;
     written = text;
     served = so_far;
     last = not_told event left.said left.made left.left;
+  }
+  left_more (Ok (Some (order.Word word))) fault left = record {
+    engine = mid;
+    written = text;
+    served = so_far;
+    last = word_not_told word left.told left.made left.left;
   }
   left_more (Err why) fault left = record {
     engine = mid;
@@ -157,11 +182,21 @@ made_lives event old new said made = record {
   run = made.run;
 }
 
+word_lives : (word : Word) (old new : EngineState) (told : Told) → MakesWord word old told new → Lives old new
+word_lives word old new told made = record {
+  events = made.events;
+  replies = made.replies;
+  calls = made.fit;
+  answers = All-from_unit made.replies;
+  run = made.run;
+}
+
 last_lives : (old new : EngineState) (before after : Option (List ℕ)) (fault : ServeFault)
     → LeavesLast old new before after fault → Lives old new
 last_lives old new before after fault (not_taken is same) =
     subst (λ (s : EngineState). Lives old s) (sym is) (runs_none EventFits IsAnyReply old)
 last_lives old new before after fault (not_told event said made left) = made_lives event old new said made
+last_lives old new before after fault (word_not_told word told made left) = word_lives word old new told made
 last_lives old new before after fault (bad_not_told number is left) =
     subst (λ (s : EngineState). Lives old s) (sym is) (runs_none EventFits IsAnyReply old)
 

@@ -11,3 +11,4 @@ pub mod Opened
 pub mod Pending
 pub mod Said
 pub mod Session
+pub mod Words

@@ -19,16 +19,25 @@ use Rattle.saved_files.specs.declared.saved_name.SavedName.TheVariants as saved
 use Rattle.std.specs.Prelude.{Result}
 use Rattle.open_database.specs.Pending.{Waits, WaitsUnlessPlaced}
 use Rattle.open_database.specs.Said.{IsAnswer, IsSaidOf}
+use Rattle.open_database.specs.Words.{IsSaidOnce, Told, one_line}
 use Rattle.open_database.specs.declared.pending.Stage.{Stage}
 use Rattle.open_database.specs.declared.said.Said.{Said}
 use Rattle.open_database.specs.declared.said.Said.TheVariants.{Reply}
 use Rattle.open_database.specs.declared.unplaced_point.UnplacedPoint.{UnplacedPoint}
+use Rattle.open_database.specs.declared.word.Word.{Word}
+use Rattle.open_database.specs.declared.word.Word.TheVariants.{Checkpoint}
+use Rattle.open_database.specs.declared.word_said.WordSaid.TheVariants.{Call}
 
 -- the engine made this call, and that is said of its reply; it refuses the call, where it has made
 -- it before, in this way
 abbrev pub StepsAndSays : EngineState → Event → Refusal → Said → EngineState → Type 0
 StepsAndSays old event again said new =
     (reply : Result Answer Refusal) × Step old event reply new × IsSaidOf reply again said
+
+-- the engine made the call that ends a checkpoint, and that is said of its reply
+abbrev pub EndsCheckpoint : EngineState → Said → EngineState → Type 0
+EndsCheckpoint old said new =
+    (reply : Result Answer Refusal) × Step old CkptEnd reply new × IsSaidOnce reply said
 
 -- the answer of the call that ended a checkpoint
 abbrev pub answer_of : UnplacedPoint → Answer
@@ -64,6 +73,15 @@ abbrev pub IsStoredFor : Event → Said → Type 0 → Type 0
 IsStoredFor (Seal id) said is_stored = IsAnswer said → is_stored
 IsStoredFor CkptEnd said is_stored = IfPoint said (λ _ _. is_stored)
 IsStoredFor other said is_stored = Unit {0}
+
+-- so it is with what is told of a word: a checkpoint that is answered has its master record in place
+abbrev pub HasPlaced : Word → Told → EngineState → Option Entries → Type 0
+HasPlaced Checkpoint (one_line (Call said)) engine entries = IsInPlace CkptEnd said engine entries
+HasPlaced word told engine entries = Unit {0}
+
+abbrev pub HasStored : Word → Told → Type 0 → Type 0
+HasStored Checkpoint (one_line (Call said)) is_stored = IsStoredFor CkptEnd said is_stored
+HasStored word told is_stored = Unit {0}
 
 -- a copy that was made complete waits for its file, where that is not in place
 abbrev pub WaitsFor : Event → Said → List Stage → Type 0

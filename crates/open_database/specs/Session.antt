@@ -14,13 +14,17 @@ use Rattle.event_script.specs.Script.{said_in}
 use Rattle.event_script.specs.Words.{lines_of}
 use Rattle.saved_files.specs.Folder.{Entries}
 use Rattle.open_database.specs.Calls.{IsAnyReply, IsOfClosing, Makes, RunsBy, SaysOf}
-use Rattle.open_database.specs.MadeFiles.{IsInPlace, IsStoredFor}
+use Rattle.open_database.specs.MadeFiles.{HasPlaced, HasStored, IsInPlace, IsStoredFor}
 use Rattle.open_database.specs.Said.{said_line}
+use Rattle.open_database.specs.Words.{MakesWord, SaysOfWord, Spells, Told, text_of}
 use Rattle.open_database.specs.declared.bad_call.LineTrouble.{LineTrouble}
+use Rattle.open_database.specs.declared.order.Order.{Order}
+use Rattle.open_database.specs.declared.order.Order.TheVariants as order
 use Rattle.open_database.specs.declared.said.Said.{Said}
 use Rattle.open_database.specs.declared.session.ServeFault.{ServeFault}
 use Rattle.open_database.specs.declared.session.ServeFault.TheVariants.{OutOfMemory, ReadFault}
 use Rattle.open_database.specs.declared.session.ServeFault.TheVariants.{WriteFault}
+use Rattle.open_database.specs.declared.word.Word.{Word}
 
 -- ---- one line
 
@@ -30,10 +34,16 @@ first_of [] = None
 first_of (event ∷ events) = Some event
 
 -- a line, read as a script, says this call, or nothing
-pub record Says (line : List ℕ) (event : Option Event) : Type 0 where
+pub record SaysCall (line : List ℕ) (event : Option Event) : Type 0 where
   pub events : List Event
   pub read : said_in (lines_of line) ≡ Some (events, None)
   pub first : event ≡ first_of events
+
+-- a line says a call, a word of an operator, or nothing
+abbrev pub Says : List ℕ → Option Order → Type 0
+Says line None = SaysCall line None
+Says line (Some (order.Call event)) = SaysCall line (Some event)
+Says line (Some (order.Word word)) = Spells line word
 
 -- what is written of a line that is no call, by its number and for this reason
 abbrev pub bad_line : ℕ → List ℕ → List ℕ
@@ -74,37 +84,65 @@ pub record LeavesAnswer (event : Event) (old new : EngineState) (entries : Optio
   pub stored : IsStoredFor event said is_stored
   pub left : LeavesLine before after (said_line said) fault
 
--- the line of this number was taken: its call was answered; or it says nothing, and nothing was
--- done; or it is no call, which was written, and the engine was not called
-abbrev pub Takes : ℕ → Result (Option Event) LineTrouble → EngineState → EngineState
+-- the engine made the calls of a word, and then that was written which is told of them; where that
+-- tells of a file, the file was in place before
+pub record TakesWord (word : Word) (old new : EngineState) (entries : Option Entries)
+    (is_stored : Type 0) (before after : Option (List ℕ)) : Type 0 where
+  pub told : Told
+  pub made : MakesWord word old told new
+  pub in_place : HasPlaced word told new entries
+  pub stored : HasStored word told is_stored
+  pub written : Appends before after (text_of told)
+
+-- the same, but that was not written, or not all of it
+pub record LeavesWord (word : Word) (old new : EngineState) (entries : Option Entries)
+    (is_stored : Type 0) (before after : Option (List ℕ)) (fault : ServeFault) : Type 0 where
+  pub told : Told
+  pub made : MakesWord word old told new
+  pub in_place : HasPlaced word told new entries
+  pub stored : HasStored word told is_stored
+  pub left : LeavesLine before after (text_of told) fault
+
+-- the line of this number was taken: its call or its word was answered; or it says nothing, and
+-- nothing was done; or it is neither, which was written, and the engine was not called
+abbrev pub Takes : ℕ → Result (Option Order) LineTrouble → EngineState → EngineState
     → Option Entries → Type 0 → Option (List ℕ) → Option (List ℕ) → Type 0
 Takes number (Ok None) old new entries is_stored before after = (new ≡ old) × (after ≡ before)
-Takes number (Ok (Some event)) old new entries is_stored before after =
+Takes number (Ok (Some (order.Call event))) old new entries is_stored before after =
     Answers event old new entries is_stored before after
+Takes number (Ok (Some (order.Word word))) old new entries is_stored before after =
+    TakesWord word old new entries is_stored before after
 Takes number (Err why) old new entries is_stored before after =
     (new ≡ old) × WritesBad number before after
 
 -- the same, but its answer was not written, or not all of it
-abbrev pub LeavesTaken : ℕ → Result (Option Event) LineTrouble → EngineState → EngineState
+abbrev pub LeavesTaken : ℕ → Result (Option Order) LineTrouble → EngineState → EngineState
     → Option Entries → Type 0 → Option (List ℕ) → Option (List ℕ) → ServeFault → Type 0
 LeavesTaken number (Ok None) old new entries is_stored before after fault = ⊥
-LeavesTaken number (Ok (Some event)) old new entries is_stored before after fault =
+LeavesTaken number (Ok (Some (order.Call event))) old new entries is_stored before after fault =
     LeavesAnswer event old new entries is_stored before after fault
+LeavesTaken number (Ok (Some (order.Word word))) old new entries is_stored before after fault =
+    LeavesWord word old new entries is_stored before after fault
 LeavesTaken number (Err why) old new entries is_stored before after fault =
     (new ≡ old) × LeavesBad number before after fault
 
 -- ---- all lines
 
 -- lines were taken one after another, and these calls of the engine were made for them, with these
--- replies: of each call that a line says, what is said of its replies was written, and of each line
--- that is none, that it is none
+-- replies: of each call that a line says, what is said of its replies was written, so was what is
+-- told of each word, and of each line that is neither, that it is none
 pub data Tells (before : Option (List ℕ))
     : List Event → List (Result Answer Refusal) → Option (List ℕ) → Type 0 where
   nothing_told : Tells before [] [] before
   call_told : (events made : List Event) (replies given : List (Result Answer Refusal))
       (text after : Option (List ℕ)) (line : List ℕ) (event : Event) (said : Said)
-      → Tells before events replies text → Says line (Some event) → SaysOf event made given said
-      → Appends text after (said_line said)
+      → Tells before events replies text → SaysCall line (Some event)
+      → SaysOf event made given said → Appends text after (said_line said)
+      → Tells before (events ++ made) (replies ++ given) after
+  word_told : (events made : List Event) (replies given : List (Result Answer Refusal))
+      (text after : Option (List ℕ)) (line : List ℕ) (word : Word) (told : Told)
+      → Tells before events replies text → Spells line word
+      → SaysOfWord word made given told → Appends text after (text_of told)
       → Tells before (events ++ made) (replies ++ given) after
   bad_told : (events : List Event) (replies : List (Result Answer Refusal))
       (text after : Option (List ℕ)) (number : ℕ)
@@ -120,12 +158,14 @@ pub record Serves (old new : EngineState) (before after : Option (List ℕ)) : T
   pub told : Tells before events replies after
 
 -- how the last line was left: it was not read, or not taken for want of memory; its call was made,
--- and not told; or it is no call, and that was not told
+-- or those of its word, and not told; or it is neither, and that was not told
 pub data LeavesLast (old new : EngineState) (before after : Option (List ℕ)) (fault : ServeFault)
     : Type 0 where
   not_taken : new ≡ old → after ≡ before → LeavesLast old new before after fault
   not_told : (event : Event) (said : Said) → Makes event old said new
       → LeavesLine before after (said_line said) fault → LeavesLast old new before after fault
+  word_not_told : (word : Word) (told : Told) → MakesWord word old told new
+      → LeavesLine before after (text_of told) fault → LeavesLast old new before after fault
   bad_not_told : (number : ℕ) → new ≡ old → LeavesBad number before after fault
       → LeavesLast old new before after fault
 

@@ -14,6 +14,8 @@ pub(crate) enum LineTrouble {
     Unended,
     /// It is a `restore`, which ends a script, and an open database has none.
     Restore,
+    /// More stands behind a word that stands alone.
+    NotAlone,
 }
 
 /// A line that is no call, and why. Its text says what is wrong, in the line's words.
@@ -34,6 +36,7 @@ impl fmt::Display for BadCall<'_> {
             LineTrouble::TooLong => write!(f, "over {MOST_LINE} bytes"),
             LineTrouble::Unended => f.write_str("it has no line feed, and was not made"),
             LineTrouble::Restore => f.write_str("an open database has no `restore`"),
+            LineTrouble::NotAlone => f.write_str("this word stands alone"),
         }
     }
 }

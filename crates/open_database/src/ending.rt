@@ -9,12 +9,12 @@ ghost use Rattle.open_database.specs.MadeFiles.{WasPut};
 
 use crate::closed_note::ClosedNote;
 use crate::names::CLOSED;
+use crate::page_writes::write_pages;
 use crate::place::Place;
 use crate::session::{Session, TellsWhy};
 use aries_core::Refusal;
-use log_records::DirtyPages;
 use log_store::LogDevice;
-use page_core::{Lsn, MAX_PAGES, PageNo};
+use page_core::Lsn;
 use page_store::PageStore;
 use saved_files::{FileFault, Folder, PutFault, put_in_place};
 
@@ -50,7 +50,10 @@ impl<F: Folder, S: PageStore, D: LogDevice + TellsWhy> Session<'_, F, S, D> {
         ensures folder { self.new.folder ≡ self.old.folder }
     {
         self.engine.force()?;
-        self.write_pages()
+        match write_pages(&mut self.engine) {
+            Ok(_) => Ok(()),
+            Err(why) => Err(why),
+        }
     }
 
     fn tell_unclosed(&mut self, why: Refusal)
@@ -60,65 +63,6 @@ impl<F: Folder, S: PageStore, D: LogDevice + TellsWhy> Session<'_, F, S, D> {
         let said = crate::said::Said::Reply(Err(why));
         self.has_failed = true;
         self.tell_fault(&said);
-    }
-
-    /// Writes each dirty page.
-    fn write_pages(&mut self) -> Result<(), Refusal>
-        ensures ran { RunsBy IsOfClosing IsAnyReply self.old.engine.state self.new.engine.state }
-        ensures well { OnOk result
-            (RunsBy IsOfClosing IsNoFault self.old.engine.state self.new.engine.state) }
-        ensures folder { self.new.folder ≡ self.old.folder }
-    {
-        let mut cursor = PageNo(0);
-        for _ in 0..=MAX_PAGES {
-            let Some(pages) = self.engine.dirty_from(cursor) else {
-                return Ok(());
-            };
-            let page = first_of(&pages);
-            self.write_page(page)?;
-            cursor = PageNo(page.0.saturating_add(1));
-        }
-        Ok(())
-    }
-
-    /// Ends the write of a page that is in progress, and writes what is newer.
-    fn write_page(&mut self, page: PageNo) -> Result<(), Refusal>
-        ensures ran { RunsBy IsOfClosing IsAnyReply self.old.engine.state self.new.engine.state }
-        ensures well { OnOk result
-            (RunsBy IsOfClosing IsNoFault self.old.engine.state self.new.engine.state) }
-        ensures folder { self.new.folder ≡ self.old.folder }
-    {
-        self.end_write(page)?;
-        self.begin_write(page)?;
-        self.end_write(page)
-    }
-
-    /// Ends the write of a page, if one is in progress.
-    fn end_write(&mut self, page: PageNo) -> Result<(), Refusal>
-        ensures ran { RunsBy IsOfClosing IsAnyReply self.old.engine.state self.new.engine.state }
-        ensures well { OnOk result
-            (RunsBy IsOfClosing IsNoFault self.old.engine.state self.new.engine.state) }
-        ensures folder { self.new.folder ≡ self.old.folder }
-    {
-        match self.engine.write_end(page) {
-            Ok(_) => Ok(()),
-            Err(Refusal::NoWrite) => Ok(()),
-            Err(why) => Err(why),
-        }
-    }
-
-    /// Begins to write a page, if it is dirty.
-    fn begin_write(&mut self, page: PageNo) -> Result<(), Refusal>
-        ensures ran { RunsBy IsOfClosing IsAnyReply self.old.engine.state self.new.engine.state }
-        ensures well { OnOk result
-            (RunsBy IsOfClosing IsNoFault self.old.engine.state self.new.engine.state) }
-        ensures folder { self.new.folder ≡ self.old.folder }
-    {
-        match self.engine.write_begin(page) {
-            Ok(_) => Ok(()),
-            Err(Refusal::NotDirty) => Ok(()),
-            Err(why) => Err(why),
-        }
     }
 
     /// Notes where the log ends, which is all forced.
@@ -140,15 +84,6 @@ impl<F: Folder, S: PageStore, D: LogDevice + TellsWhy> Session<'_, F, S, D> {
         match self.folder.sync_names() {
             Ok(()) => Ok(()),
             Err(_) => Err(FileFault::WriteFault(0)),
-        }
-    }
-}
-
-/// The first of some dirty pages.
-fn first_of(pages: &DirtyPages) -> PageNo {
-    match pages {
-        DirtyPages::One(first) | DirtyPages::Two(first, _) | DirtyPages::Three(first, _, _) => {
-            PageNo(first.page)
         }
     }
 }

@@ -2,6 +2,7 @@
 
 ghost use Rattle.std.specs.Prelude.{◌<◌, vec_len};
 
+use crate::word::is_quit;
 use page_core::{Turn, read_more, zeros};
 use std::alloc::{AllocError, Global};
 use std::io::Read;
@@ -77,6 +78,14 @@ impl<R: Read + Drop> LineReader<R> {
             }
         }
         NextLine::Failed
+    }
+
+    /// Reads the next line. One that says to quit is as the end of the input.
+    pub fn next_until_quit(&mut self) -> NextLine {
+        match self.next_line() {
+            NextLine::Line(len) if is_quit(self.line(len)) => NextLine::End,
+            next => next,
+        }
     }
 
     /// Puts a byte behind the first ones of the line, if there is room.

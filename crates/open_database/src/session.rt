@@ -10,6 +10,7 @@ ghost use Rattle.open_database.specs.Session.{LeavesTaken, Says, Serves, Takes, 
 use crate::bad_call::{BadCall, LineTrouble};
 use crate::call_kind::CallKind;
 use crate::line_reader::{LineReader, NextLine};
+use crate::order::{Order, said_in, said_unended};
 use crate::pending::Pending;
 use crate::place::Place;
 use crate::said::{Said, write_said};
@@ -17,7 +18,6 @@ use crate::tally::Tally;
 use crate::told::Teller;
 use crate::unplaced_point::UnplacedPoint;
 use aries_core::{Engine, Event, Refusal};
-use event_script::{ScriptFault, read_script};
 use log_store::LogDevice;
 use page_core::write_out;
 use page_store::PageStore;
@@ -80,34 +80,6 @@ pub(crate) struct Session<'a, F: Folder, S: PageStore, D: LogDevice> {
     pub has_failed: bool,
 }
 
-/// What a line says: a call, or nothing.
-fn said_in(alloc: Global, line: &[u8]) -> Result<Result<Option<Event>, LineTrouble>, AllocError>
-    ensures { IfOk result (λ it. IfOk it (Says line.now)) }
-{
-    let mut bytes = line;
-    Ok(match read_script(alloc, &mut bytes) {
-        Ok(script) if script.restore.is_some() => Err(LineTrouble::Restore),
-        Ok(script) => Ok(script.events.first().copied()),
-        Err(ScriptFault::BadLine(_, why)) => Err(LineTrouble::Bad(why)),
-        Err(ScriptFault::Input | ScriptFault::ReadFault) => Err(LineTrouble::NoText),
-        Err(ScriptFault::OutOfMemory) => return Err(AllocError),
-    })
-}
-
-/// What the last bytes of an input say, behind which no line feed stands: nothing, or something
-/// that is not made.
-fn said_unended(
-    alloc: Global,
-    line: &[u8],
-) -> Result<Result<Option<Event>, LineTrouble>, AllocError>
-    ensures { IfOk result (λ it. IfOk it (Says line.now)) }
-{
-    match said_in(alloc, line)? {
-        Ok(None) => Ok(Ok(None)),
-        _ => Ok(Err(LineTrouble::Unended)),
-    }
-}
-
 /// Writes that a line is no call, and why.
 fn write_bad<W: Write>(
     alloc: Global,
@@ -133,8 +105,8 @@ fn write_bad<W: Write>(
 }
 
 impl<F: Folder, S: PageStore, D: LogDevice + TellsWhy> Session<'_, F, S, D> {
-    /// Takes the lines of the input one after another, to its end. Each is answered by one line, but
-    /// for those that say nothing.
+    /// Takes the lines of the input one after another, to its end, or to a `quit`. Each is answered
+    /// by one line or more, but for those that say nothing.
     pub fn serve<R: Read + Drop, W: Write>(
         &mut self,
         lines: &mut LineReader<R>,
@@ -148,7 +120,7 @@ impl<F: Folder, S: PageStore, D: LogDevice + TellsWhy> Session<'_, F, S, D> {
         ensures claimed { F.is_claimed self.new.folder }
     {
         for number in 1..u64::MAX {
-            match lines.next_line() {
+            match lines.next_until_quit() {
                 NextLine::Line(len) => {
                     let line = lines.line(len);
                     self.take_line(number, line, said_in(self.alloc, line)?, writer)?;
@@ -172,7 +144,7 @@ impl<F: Folder, S: PageStore, D: LogDevice + TellsWhy> Session<'_, F, S, D> {
         &mut self,
         number: u64,
         line: &[u8],
-        said: Result<Option<Event>, LineTrouble>,
+        said: Result<Option<Order>, LineTrouble>,
         writer: &mut W,
     ) -> Result<(), ServeFault>
         requires claimed { F.is_claimed self.old.folder }
@@ -186,7 +158,8 @@ impl<F: Folder, S: PageStore, D: LogDevice + TellsWhy> Session<'_, F, S, D> {
         ensures claimed { F.is_claimed self.new.folder }
     {
         match said {
-            Ok(Some(event)) => self.answer(number, event, writer),
+            Ok(Some(Order::Call(event))) => self.answer(number, event, writer),
+            Ok(Some(Order::Word(word))) => self.take_word(number, word, writer),
             Ok(None) => Ok(()),
             Err(why) => self.refuse_line(number, &BadCall { line, why }, writer),
         }
@@ -233,7 +206,7 @@ impl<F: Folder, S: PageStore, D: LogDevice + TellsWhy> Session<'_, F, S, D> {
     }
 
     /// Makes a call, and puts in place what it made.
-    fn made(&mut self, event: Event) -> Said
+    pub(crate) fn made(&mut self, event: Event) -> Said
         requires { F.is_claimed self.old.folder }
         ensures made { Makes event self.old.engine.state result self.new.engine.state }
         // Where what is said tells of a file, it is in place.
@@ -256,7 +229,7 @@ impl<F: Folder, S: PageStore, D: LogDevice + TellsWhy> Session<'_, F, S, D> {
     }
 
     /// Takes note of an answer, and tells a person why a file failed.
-    fn note(&mut self, number: u64, said: &Said)
+    pub(crate) fn note(&mut self, number: u64, said: &Said)
         ensures engine { self.new.engine ≡ self.old.engine }
         ensures folder { self.new.folder ≡ self.old.folder }
     {

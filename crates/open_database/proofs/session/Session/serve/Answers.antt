@@ -50,10 +50,10 @@ returns-in_err-take_line-in-TooLong-clause-left g c =
     c.in_err-take_line-in-TooLong.field-0.0 c.in_err-take_line-in-TooLong.ensures.left)
 
 pub loop-number-preserved : goal.loop-number-preserved
-loop-number-preserved g c = elim c.match-next_line.branch [
+loop-number-preserved g c = elim c.match-next_until_quit.branch [
   | in-Line+in_ok-said_in-in-Line+in_ok-take_line-in-Line w ↦
       subst (λ s. g.F.Folder.is_claimed s.folder × Serves c.args.self.now.engine.state s.engine.state
-      (g.W.Write.contents c.args.writer.now) (g.W.Write.contents c.match-next_line.writer)) (sym w.self-is)
+      (g.W.Write.contents c.args.writer.now) (g.W.Write.contents c.match-next_until_quit.writer)) (sym w.self-is)
       (subst (λ v. g.F.Folder.is_claimed w.take_line.new.self.folder × Serves c.args.self.now.engine.state
       w.take_line.new.self.engine.state (g.W.Write.contents c.args.writer.now) (g.W.Write.contents v)) (sym w.writer-is) (
         w.take_line.ensures.claimed,
@@ -66,7 +66,7 @@ loop-number-preserved g c = elim c.match-next_line.branch [
       ))
   | in-Unended+in_ok-said_unended-in-Unended+in_ok-take_line-in-Unended w ↦
       subst (λ s. g.F.Folder.is_claimed s.folder × Serves c.args.self.now.engine.state s.engine.state
-      (g.W.Write.contents c.args.writer.now) (g.W.Write.contents c.match-next_line.writer)) (sym w.self-is)
+      (g.W.Write.contents c.args.writer.now) (g.W.Write.contents c.match-next_until_quit.writer)) (sym w.self-is)
       (subst (λ v. g.F.Folder.is_claimed w.take_line-in-Unended.new.self.folder × Serves c.args.self.now.engine.state
       w.take_line-in-Unended.new.self.engine.state (g.W.Write.contents c.args.writer.now) (g.W.Write.contents v)) (sym w.writer-is) (
         w.take_line-in-Unended.ensures.claimed,
@@ -79,7 +79,7 @@ loop-number-preserved g c = elim c.match-next_line.branch [
       ))
   | in-TooLong+in_ok-take_line-in-TooLong w ↦
       subst (λ s. g.F.Folder.is_claimed s.folder × Serves c.args.self.now.engine.state s.engine.state
-      (g.W.Write.contents c.args.writer.now) (g.W.Write.contents c.match-next_line.writer)) (sym w.self-is)
+      (g.W.Write.contents c.args.writer.now) (g.W.Write.contents c.match-next_until_quit.writer)) (sym w.self-is)
       (subst (λ v. g.F.Folder.is_claimed w.take_line-in-TooLong.new.self.folder × Serves c.args.self.now.engine.state
       w.take_line-in-TooLong.new.self.engine.state (g.W.Write.contents c.args.writer.now) (g.W.Write.contents v)) (sym w.writer-is) (
         w.take_line-in-TooLong.ensures.claimed,

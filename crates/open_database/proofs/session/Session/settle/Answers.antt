@@ -1,9 +1,9 @@
-use Rattle.std.proofs.lemmas.Result.{on_ok_weaker}
 use Rattle.std.specs.Prelude.{Ok}
 use Rattle.engine_calls.specs.declared.event.Answer.TheVariants.{Forced}
 use Rattle.engine_calls.specs.declared.event.Event.TheVariants.{Force}
 use Rattle.engine_rules.specs.Step.{reply_of}
-use Rattle.open_database.proofs.Runs.{answered_well, closing_goes_on, runs_one, runs_then}
+use Rattle.open_database.proofs.Runs.{any_reply, answered_well, closing_goes_on, runs_one, runs_then}
+use Rattle.open_database.proofs.WordRuns.{refused_by, written_by}
 use Rattle.open_database.specs.Calls.{IsAnyReply, IsNoFault, IsOfClosing}
 use Rattle.open_database.proofs.session.Session.settle.Goals as goal
 
@@ -12,18 +12,25 @@ returns-in_err-force-clause-ran g c =
     runs_one IsOfClosing IsAnyReply c.args.self.now.engine.state c.force.new.self.state Force
     (reply_of Forced c.force.result) tt tt c.force.ensures.step
 
-pub returns-clause-ran : goal.returns-clause-ran
-returns-clause-ran g c =
-    closing_goes_on c.args.self.now.engine.state c.force.new.self.state c.write_pages.new.self.engine.state
+pub returns-in-Ok-clause-ran : goal.returns-in-Ok-clause-ran
+returns-in-Ok-clause-ran g c =
+    closing_goes_on c.args.self.now.engine.state c.force.new.self.state c.write_pages.new.engine.state
     (runs_one IsOfClosing IsNoFault c.args.self.now.engine.state c.force.new.self.state Force
     (Ok (Forced c.in_ok-force.field-0)) tt (answered_well (Forced c.in_ok-force.field-0)) c.in_ok-force.ensures.step)
-    c.write_pages.ensures.ran
+    (any_reply c.force.new.self.state c.write_pages.new.engine.state
+    (written_by c.in-Ok.field-0 c.force.new.self.state c.write_pages.new.engine.state c.in-Ok.ensures.written))
 
-pub returns-clause-well : goal.returns-clause-well
-returns-clause-well g c =
-    on_ok_weaker c.write_pages.result
-    (runs_then IsOfClosing IsNoFault c.args.self.now.engine.state c.force.new.self.state
-    c.write_pages.new.self.engine.state
+pub returns-in-Ok-clause-well : goal.returns-in-Ok-clause-well
+returns-in-Ok-clause-well g c =
+    runs_then IsOfClosing IsNoFault c.args.self.now.engine.state c.force.new.self.state
+    c.write_pages.new.engine.state
     (runs_one IsOfClosing IsNoFault c.args.self.now.engine.state c.force.new.self.state Force
-    (Ok (Forced c.in_ok-force.field-0)) tt (answered_well (Forced c.in_ok-force.field-0)) c.in_ok-force.ensures.step))
-    c.write_pages.ensures.well
+    (Ok (Forced c.in_ok-force.field-0)) tt (answered_well (Forced c.in_ok-force.field-0)) c.in_ok-force.ensures.step)
+    (written_by c.in-Ok.field-0 c.force.new.self.state c.write_pages.new.engine.state c.in-Ok.ensures.written)
+
+pub returns-in-Err-clause-ran : goal.returns-in-Err-clause-ran
+returns-in-Err-clause-ran g c =
+    closing_goes_on c.args.self.now.engine.state c.force.new.self.state c.write_pages.new.engine.state
+    (runs_one IsOfClosing IsNoFault c.args.self.now.engine.state c.force.new.self.state Force
+    (Ok (Forced c.in_ok-force.field-0)) tt (answered_well (Forced c.in_ok-force.field-0)) c.in_ok-force.ensures.step)
+    (refused_by c.in-Err.why c.force.new.self.state c.write_pages.new.engine.state c.in-Err.ensures.refused)

@@ -1,0 +1,110 @@
+"""Types the words of an operator at an open database, and looks at what they answer and leave.
+
+usage: python3 -m checks.open_words PROGRAM
+
+A flush answers how many writes have ended. A checkpoint writes the dirty pages first, so that its redo point is its own
+begin, and its master record is there once it is answered; where one is open, the refusal is that of the call. A line with
+more behind a word is a bad line, `quit` ends the input as its end does, and `help` has a line for each word and call.
+With `--strict` a word that is refused counts as a call does.
+"""
+
+import subprocess
+import sys
+import tempfile
+from pathlib import Path
+
+from checks.bank_files import Failure, program_of
+
+MOST_SECONDS = 60
+BEGUN = "new: 2 pages"
+MADE = ["begin", "set 1 0 0 5", "set 1 1 0 6", "commit 1"]
+ANSWERS = ["began 1 at 64", "lsn 128", "lsn 192", "lsn 256"]
+CALLS = ["begin", "set", "add", "read", "save", "undoto", "commit", "abort", "undo", "force", "extend", "wbegin", "wend",
+         "ckpt", "gather", "endckpt", "full", "inc", "take", "seal", "drop", "repair"]
+WORDS = ["checkpoint", "flush", "help", "quit"]
+
+
+class Words:
+    """The program, and how often a check went well."""
+
+    def __init__(self, program, place):
+        self.program, self.place, self.checks, self.folders = program, place, 0, 0
+
+    def open(self, lines, *words, folder=None):
+        """A life with these lines, in a new folder or in this one."""
+        if folder is None:
+            self.folders += 1
+            folder = self.place / f"folder-{self.folders}"
+            folder.mkdir()
+            words = ("--pages", "2", *words)
+        data = "".join(f"{line}\n" for line in lines).encode()
+        done = subprocess.run([self.program, "open", folder, *words], input=data, capture_output=True,
+                              timeout=MOST_SECONDS)
+        return folder, done, done.stdout.decode().splitlines()
+
+    def wants(self, what, is_so, done):
+        if not is_so:
+            raise Failure(f"{what}: status {done.returncode}, {done.stdout!r:.600}, {done.stderr!r:.400}")
+        self.checks += 1
+
+
+def pages_that_are_written(words):
+    _, done, answers = words.open([*MADE, "flush", "flush"])
+    words.wants("a flush", answers == [BEGUN, *ANSWERS, "flushed 2", "flushed 0"] and done.returncode == 0, done)
+    lines = [*MADE, "wbegin 0", "begin", "set 2 0 1 7", "commit 2", "flush"]
+    _, done, answers = words.open(lines)
+    words.wants("a flush behind a write in progress", answers[-1] == "flushed 3", done)
+
+
+def checkpoints(words):
+    folder, done, answers = words.open([*MADE, "checkpoint"])
+    words.wants("a checkpoint", answers == [BEGUN, *ANSWERS, "point 320 384 320"] and done.returncode == 0, done)
+    words.wants("its master record", (folder / "master").stat().st_size == 64, done)
+    _, done, answers = words.open(["checkpoint"], folder=folder)
+    words.wants("a checkpoint of a later life", answers[-1] == "point 448 512 448", done)
+    _, done, answers = words.open([*MADE, "ckpt", "checkpoint", "gather"])
+    words.wants("a checkpoint while one is open", answers[-2:] == ["E13 CkptOpen", "more"], done)
+    _, done, answers = words.open(["begin", "checkpoint"])
+    words.wants("a checkpoint beside a transaction", answers[-1] == "point 128 256 128", done)
+
+
+def lines_that_are_no_words(words):
+    lines = ["checkpoint now", "flush 1", " flush ", "Flush", "help me", "quit now"]
+    _, done, answers = words.open(lines)
+    alone = "this word stands alone"
+    wanted = [BEGUN, f"bad line 1: {alone}", f"bad line 2: {alone}", "flushed 0", "bad line 4: unknown call `Flush`",
+              f"bad line 5: {alone}", f"bad line 6: {alone}"]
+    words.wants("lines that are no words", answers == wanted and done.returncode == 0, done)
+    _, done, answers = words.open(["ckpt", "checkpoint", "flush"], "--strict")
+    told = b"imgcopy: 1 of 3 calls was refused, the first at line 2\n"
+    words.wants("a word that is refused", done.returncode == 1 and done.stderr == told, done)
+
+
+def the_end(words):
+    folder, done, answers = words.open([*MADE, "quit", "begin", "nothing"])
+    is_closed = (folder / "closed").read_bytes() == b"320\n"
+    words.wants("quit", answers == [BEGUN, *ANSWERS] and done.returncode == 0 and is_closed, done)
+
+
+def help_lines(words):
+    _, done, answers = words.open(["help", "flush"])
+    names = [answer.split(":")[0].split()[0] for answer in answers[1:-1]]
+    is_all = sorted(names) == sorted([*CALLS, *WORDS]) and all(": " in answer for answer in answers[1:-1])
+    words.wants("help", is_all and answers[-1] == "flushed 0" and done.returncode == 0, done)
+
+
+def main(arguments):
+    try:
+        if len(arguments) != 1:
+            raise Failure("usage: python3 -m checks.open_words PROGRAM")
+        with tempfile.TemporaryDirectory() as place:
+            words = Words(program_of(arguments[0]), Path(place))
+            for look in (pages_that_are_written, checkpoints, lines_that_are_no_words, the_end, help_lines):
+                look(words)
+    except (Failure, OSError, subprocess.SubprocessError) as failure:
+        sys.exit(f"open_words.py: {failure}")
+    print(f"ok open_words: {words.checks} answers to the words of an operator are as they should be")
+
+
+if __name__ == "__main__":
+    main(sys.argv[1:])

@@ -1,0 +1,12 @@
+use Rattle.open_database.proofs.WordRuns.{checkpoint_refused, checkpointed}
+use Rattle.open_database.proofs.session.Session.checkpoint.Goals as goal
+
+pub returns-in-Ok-clause-made : goal.returns-in-Ok-clause-made
+returns-in-Ok-clause-made g c =
+    checkpointed c.args.self.now.engine.state c.gathered.new.engine.state c.end_gathered.new.self.engine.state
+    c.end_gathered.result c.in-Ok.ensures.gathered c.end_gathered.ensures.ended
+
+pub returns-in-Err-clause-made : goal.returns-in-Err-clause-made
+returns-in-Err-clause-made g c =
+    checkpoint_refused c.in-Err.why c.args.self.now.engine.state c.gathered.new.engine.state
+    c.in-Err.ensures.refused

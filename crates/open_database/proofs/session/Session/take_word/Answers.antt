@@ -1,0 +1,26 @@
+use Rattle.std.proofs.Common.{subst, sym}
+use Rattle.std.specs.Prelude.{IfErr, OnOk}
+use Rattle.open_database.proofs.WordRuns.{help_left, help_taken}
+use Rattle.open_database.specs.Session.{LeavesWord, TakesWord}
+use Rattle.open_database.specs.declared.word.Word.{Word}
+use Rattle.open_database.proofs.session.Session.take_word.Goals as goal
+
+pub returns-in-Help-clause-taken : goal.returns-in-Help-clause-taken
+returns-in-Help-clause-taken g c =
+    subst (λ (word : Word). OnOk c.write_text.result (TakesWord word c.args.self.now.engine.state
+    c.args.self.now.engine.state (g.F.Folder.entries c.args.self.now.folder)
+    (g.F.Folder.is_stored c.args.self.now.folder) (g.W.Write.contents c.args.writer.now)
+    (g.W.Write.contents c.write_text.new.writer))) (sym c.in-Help.is)
+    (help_taken c.write_text.result c.args.self.now.engine.state c.as_bytes.result.now
+    (g.F.Folder.entries c.args.self.now.folder) (g.F.Folder.is_stored c.args.self.now.folder)
+    (g.W.Write.contents c.args.writer.now) (g.W.Write.contents c.write_text.new.writer) c.write_text.ensures.ok)
+
+pub returns-in-Help-clause-left : goal.returns-in-Help-clause-left
+returns-in-Help-clause-left g c =
+    subst (λ (word : Word). IfErr c.write_text.result (LeavesWord word c.args.self.now.engine.state
+    c.args.self.now.engine.state (g.F.Folder.entries c.args.self.now.folder)
+    (g.F.Folder.is_stored c.args.self.now.folder) (g.W.Write.contents c.args.writer.now)
+    (g.W.Write.contents c.write_text.new.writer))) (sym c.in-Help.is)
+    (help_left c.write_text.result c.args.self.now.engine.state c.as_bytes.result.now
+    (g.F.Folder.entries c.args.self.now.folder) (g.F.Folder.is_stored c.args.self.now.folder)
+    (g.W.Write.contents c.args.writer.now) (g.W.Write.contents c.write_text.new.writer) c.write_text.ensures.err)

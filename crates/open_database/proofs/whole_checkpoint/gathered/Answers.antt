@@ -1,0 +1,20 @@
+use Rattle.std.proofs.lemmas.Result.{on_ok_weaker}
+use Rattle.open_database.proofs.WordRuns.{err_weaker, written_gathered, written_not_gathered}
+use Rattle.open_database.specs.Words.{AreRefused, IsOfCheckpoint, Runs}
+use Rattle.open_database.proofs.whole_checkpoint.gathered.Goals as goal
+
+pub returns-in-Ok-clause-gathered : goal.returns-in-Ok-clause-gathered
+returns-in-Ok-clause-gathered g c =
+    on_ok_weaker c.begin_gathered.result
+    (written_gathered c.in-Ok.field-0 c.args.engine.now.state c.write_pages.new.engine.state
+    c.begin_gathered.new.engine.state c.in-Ok.ensures.written)
+    c.begin_gathered.ensures.gathered
+
+pub returns-in-Ok-clause-refused : goal.returns-in-Ok-clause-refused
+returns-in-Ok-clause-refused g c =
+    err_weaker c.begin_gathered.result
+    (λ why. Runs (AreRefused IsOfCheckpoint why) c.write_pages.new.engine.state c.begin_gathered.new.engine.state)
+    (λ why. Runs (AreRefused IsOfCheckpoint why) c.args.engine.now.state c.begin_gathered.new.engine.state)
+    (λ why. written_not_gathered c.in-Ok.field-0 why c.args.engine.now.state c.write_pages.new.engine.state
+    c.begin_gathered.new.engine.state c.in-Ok.ensures.written)
+    c.begin_gathered.ensures.refused

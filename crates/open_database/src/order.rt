@@ -1,0 +1,65 @@
+//! What a line of an open database says.
+
+ghost use Rattle.std.specs.Prelude.{IfOk};
+ghost use Rattle.open_database.specs.Session.{Says, SaysCall};
+
+use crate::bad_call::LineTrouble;
+use crate::word::{Word, word_in};
+use aries_core::Event;
+use event_script::{ScriptFault, read_script};
+use std::alloc::{AllocError, Global};
+
+/// What a line orders.
+#[derive(Clone, Copy)]
+pub(crate) enum Order {
+    /// A call of the engine, as a script has it.
+    Call(Event),
+    /// What a word of an operator says.
+    Word(Word),
+}
+
+/// What a line says: an order, or nothing.
+pub(crate) fn said_in(
+    alloc: Global,
+    line: &[u8],
+) -> Result<Result<Option<Order>, LineTrouble>, AllocError>
+    ensures { IfOk result (λ it. IfOk it (Says line.now)) }
+{
+    match word_in(line) {
+        Some(Ok(word)) => Ok(Ok(Some(Order::Word(word)))),
+        Some(Err(why)) => Ok(Err(why)),
+        None => match call_in(alloc, line)? {
+            Ok(Some(event)) => Ok(Ok(Some(Order::Call(event)))),
+            Ok(None) => Ok(Ok(None)),
+            Err(why) => Ok(Err(why)),
+        },
+    }
+}
+
+/// What the last bytes of an input say, behind which no line feed stands: nothing, or something
+/// that is not done.
+pub(crate) fn said_unended(
+    alloc: Global,
+    line: &[u8],
+) -> Result<Result<Option<Order>, LineTrouble>, AllocError>
+    ensures { IfOk result (λ it. IfOk it (Says line.now)) }
+{
+    match said_in(alloc, line)? {
+        Ok(None) => Ok(Ok(None)),
+        _ => Ok(Err(LineTrouble::Unended)),
+    }
+}
+
+/// What a line of a script says: a call, or nothing.
+fn call_in(alloc: Global, line: &[u8]) -> Result<Result<Option<Event>, LineTrouble>, AllocError>
+    ensures { IfOk result (λ it. IfOk it (SaysCall line.now)) }
+{
+    let mut bytes = line;
+    Ok(match read_script(alloc, &mut bytes) {
+        Ok(script) if script.restore.is_some() => Err(LineTrouble::Restore),
+        Ok(script) => Ok(script.events.first().copied()),
+        Err(ScriptFault::BadLine(_, why)) => Err(LineTrouble::Bad(why)),
+        Err(ScriptFault::Input | ScriptFault::ReadFault) => Err(LineTrouble::NoText),
+        Err(ScriptFault::OutOfMemory) => return Err(AllocError),
+    })
+}

@@ -1,0 +1,101 @@
+//! A checkpoint that is made by one word.
+
+ghost use Rattle.std.specs.Prelude.{IfErr, OnOk};
+ghost use Rattle.open_database.specs.MadeFiles.{EndsCheckpoint, IsInPlace, IsStoredFor};
+ghost use Rattle.open_database.specs.Words.{AreRefused, GatherSteps, Gathers, GathersAll};
+ghost use Rattle.open_database.specs.Words.{IsOfCheckpoint, MakesWord, Runs, one_line};
+ghost use Rattle.open_database.specs.declared.word.Word.TheVariants as word;
+ghost use Rattle.open_database.specs.declared.word_said.WordSaid.TheVariants as word_said;
+ghost use Rattle.engine_calls.specs.declared.event.Event.TheVariants as event;
+
+use crate::page_writes::write_pages;
+use crate::said::Said;
+use crate::session::{Session, TellsWhy};
+use crate::unplaced_point::UnplacedPoint;
+use aries_core::{Engine, Gathered, Refusal};
+use log_store::LogDevice;
+use page_core::MAX_PAGES;
+use page_store::PageStore;
+use saved_files::Folder;
+
+impl<F: Folder, S: PageStore, D: LogDevice + TellsWhy> Session<'_, F, S, D> {
+    /// Writes each dirty page, so that redo begins late, and makes a whole checkpoint, whose master
+    /// record is in place.
+    pub(crate) fn checkpoint(&mut self) -> Said
+        requires { F.is_claimed self.old.folder }
+        ensures made { MakesWord word.Checkpoint self.old.engine.state
+            (one_line (word_said.Call result)) self.new.engine.state }
+        ensures in_place { IsInPlace event.CkptEnd result self.new.engine.state
+            (F.entries self.new.folder) }
+        ensures stored { IsStoredFor event.CkptEnd result (F.is_stored self.new.folder) }
+        ensures claimed { F.is_claimed self.new.folder }
+    {
+        match gathered(&mut self.engine) {
+            Ok(()) => self.end_gathered(),
+            Err(why) => Said::Reply(Err(why)),
+        }
+    }
+
+    /// Ends the checkpoint that is gathered, and puts its master record in place.
+    fn end_gathered(&mut self) -> Said
+        requires { F.is_claimed self.old.folder }
+        ensures ended { EndsCheckpoint self.old.engine.state result self.new.engine.state }
+        ensures in_place { IsInPlace event.CkptEnd result self.new.engine.state
+            (F.entries self.new.folder) }
+        ensures stored { IsStoredFor event.CkptEnd result (F.is_stored self.new.folder) }
+        ensures claimed { F.is_claimed self.new.folder }
+    {
+        match self.engine.ckpt_end() {
+            Ok(point) => {
+                let point = UnplacedPoint {
+                    begin: point.begin.0,
+                    end: point.end.0,
+                    redo: point.redo.0,
+                };
+                self.point = Some(point);
+                self.place_point(&point)
+            }
+            Err(why) => Said::Reply(Err(why)),
+        }
+    }
+}
+
+/// Writes each dirty page, begins a checkpoint, and gathers all that it has to.
+fn gathered<S: PageStore, D: LogDevice>(engine: &mut Engine<S, D>) -> Result<(), Refusal>
+    ensures gathered { OnOk result (Runs GathersAll engine.old.state engine.new.state) }
+    ensures refused { IfErr result (λ why.
+        Runs (AreRefused IsOfCheckpoint why) engine.old.state engine.new.state) }
+{
+    match write_pages(engine) {
+        Ok(_) => begin_gathered(engine),
+        Err(why) => Err(why),
+    }
+}
+
+/// Begins a checkpoint, and gathers all that it has to.
+fn begin_gathered<S: PageStore, D: LogDevice>(engine: &mut Engine<S, D>) -> Result<(), Refusal>
+    ensures gathered { OnOk result (Runs Gathers engine.old.state engine.new.state) }
+    ensures refused { IfErr result (λ why.
+        Runs (AreRefused IsOfCheckpoint why) engine.old.state engine.new.state) }
+{
+    match engine.ckpt_begin() {
+        Ok(_) => gather_all(engine),
+        Err(why) => Err(why),
+    }
+}
+
+/// Gathers all that the open checkpoint has to.
+fn gather_all<S: PageStore, D: LogDevice>(engine: &mut Engine<S, D>) -> Result<(), Refusal>
+    ensures gathered { OnOk result (Runs GatherSteps engine.old.state engine.new.state) }
+    ensures refused { IfErr result (λ why.
+        Runs (AreRefused IsOfCheckpoint why) engine.old.state engine.new.state) }
+{
+    for _ in 0..MAX_PAGES {
+        match engine.ckpt_gather() {
+            Ok(Gathered::More) => {}
+            Ok(Gathered::Done) => return Ok(()),
+            Err(why) => return Err(why),
+        }
+    }
+    Ok(())
+}
