@@ -5,9 +5,12 @@ usage: python3 -m checks.open_words PROGRAM
 A flush answers how many writes have ended. A checkpoint writes the dirty pages first, so that its redo point is its own
 begin, and its master record is there once it is answered; where one is open, the refusal is that of the call. A line with
 more behind a word is a bad line, `quit` ends the input as its end does, and `help` has a line for each word and call.
-With `--strict` a word that is refused counts as a call does.
+With `--strict` a word that is refused counts as a call does. At a terminal, and only there, a prompt stands before each
+line.
 """
 
+import os
+import pty
 import subprocess
 import sys
 import tempfile
@@ -93,13 +96,29 @@ def help_lines(words):
     words.wants("help", is_all and answers[-1] == "flushed 0" and done.returncode == 0, done)
 
 
+def a_terminal(words):
+    folder = words.place / "at-a-terminal"
+    folder.mkdir()
+    leader, follower = pty.openpty()
+    child = subprocess.Popen([words.program, "open", folder, "--pages", "2"], stdin=follower, stdout=subprocess.PIPE,
+                             stderr=subprocess.PIPE)
+    os.close(follower)
+    os.write(leader, b"flush\n# nothing\nquit\n")
+    out, said = child.communicate(timeout=MOST_SECONDS)
+    os.close(leader)
+    done = subprocess.CompletedProcess(child.args, child.returncode, out, said)
+    prompt = "imgcopy> "
+    wanted = f"{BEGUN}\n{prompt}flushed 0\n{prompt}{prompt}"
+    words.wants("a terminal", out.decode() == wanted and not said and done.returncode == 0, done)
+
+
 def main(arguments):
     try:
         if len(arguments) != 1:
             raise Failure("usage: python3 -m checks.open_words PROGRAM")
         with tempfile.TemporaryDirectory() as place:
             words = Words(program_of(arguments[0]), Path(place))
-            for look in (pages_that_are_written, checkpoints, lines_that_are_no_words, the_end, help_lines):
+            for look in (pages_that_are_written, checkpoints, lines_that_are_no_words, the_end, help_lines, a_terminal):
                 look(words)
     except (Failure, OSError, subprocess.SubprocessError) as failure:
         sys.exit(f"open_words.py: {failure}")

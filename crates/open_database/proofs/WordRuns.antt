@@ -13,7 +13,6 @@ use Rattle.engine_calls.specs.declared.event.Event.TheVariants.{CkptBegin, CkptE
 use Rattle.engine_calls.specs.declared.event.Event.TheVariants.{Force, WriteBegin, WriteEnd}
 use Rattle.engine_calls.specs.declared.refusal.Refusal.{Refusal}
 use Rattle.engine_rules.specs.EngineState.{EngineState}
-use Rattle.engine_rules.specs.Run.{Run}
 use Rattle.engine_rules.specs.Step.{Step}
 use Rattle.open_database.proofs.Runs.{run_append}
 use Rattle.open_database.specs.Calls.{IsAnyReply, IsNoFault, IsOfClosing, RunsBy}

@@ -1,6 +1,6 @@
 //! A checkpoint and a copy of a closed database.
 
-use crate::answered::{answer, is_well};
+use crate::checkpoint_and_copy::checkpoint_and_copy;
 use crate::fault::OpenFault;
 use crate::open::{FileSession, OpenCall, OpenEnd, held, opened, put_point};
 use crate::pending::Pending;
@@ -9,6 +9,7 @@ use crate::second_folder::put_beside;
 use crate::session::Session;
 use crate::tally::Tally;
 use crate::told::Teller;
+use crate::whole_copy::newest;
 use copy_vault::{CopyId, Vault};
 use image_copies::{CopyKind, MAX_COPIES};
 use page_core::MAX_PAGES;
@@ -90,43 +91,18 @@ pub fn backup_folder(rt: &HostRuntime, call: &BackupCall<'_>) -> OpenEnd {
 fn backed_up(session: &mut FileSession<'_>, call: &BackupCall<'_>) -> OpenEnd {
     let on = match (call.full, call.on) {
         (true, _) => None,
-        (false, Some(id)) => Some(CopyId(id)),
-        (false, None) => newest(session.engine.copies()),
+        (false, Some(id)) => Some(id),
+        (false, None) => newest(session.engine.copies()).map(|id| id.0),
     };
-    let is_made = match lines_for(session.alloc, on) {
-        Ok(lines) => answer(session, lines.as_str()),
-        Err(_) => false,
-    };
+    let is_made = checkpoint_and_copy(session, on);
     session.close();
-    if !is_made || !is_well(session) {
+    if !is_made || session.has_failed {
         return OpenEnd::Failed;
     }
     match call.into {
         Some(into) => put_into(session, into),
         None => OpenEnd::Well,
     }
-}
-
-/// The lines that make a checkpoint and a copy on this one, or a full one.
-fn lines_for(alloc: Global, on: Option<CopyId>) -> Result<String, AllocError> {
-    match on {
-        Some(id) => {
-            let number = id.0;
-            format!(in alloc; "checkpoint\ncopy on {number}\n")
-        }
-        None => String::from_str(alloc, "checkpoint\ncopy\n"),
-    }
-}
-
-/// The newest complete copy, if there is one.
-fn newest(vault: &Vault) -> Option<CopyId> {
-    let mut found = None;
-    for id in 1..=MAX_COPIES {
-        if vault.complete(CopyId(id)).is_some() {
-            found = Some(CopyId(id));
-        }
-    }
-    found
 }
 
 /// Puts the log, the master record and the chain of the newest copy into a second folder.

@@ -2,11 +2,11 @@
 //! It is opened, killed at any moment, and opened again.
 #![tactic(auto)]
 
-mod answered;
 mod backup;
 mod bad_call;
 mod begin;
 mod call_kind;
+mod checkpoint_and_copy;
 mod claims_soon;
 mod closed_note;
 mod closed_volume;
@@ -34,6 +34,7 @@ mod order;
 mod page_writes;
 mod pending;
 mod place;
+mod prompt;
 mod renew;
 mod restarted;
 mod said;

@@ -18,6 +18,7 @@ use crate::line_reader::LineReader;
 use crate::log_file::{LogFile, of_log, open_log};
 use crate::pending::Pending;
 use crate::place::Place;
+use crate::prompt::Prompted;
 use crate::restarted::{Reopened, reopen};
 use crate::session::{ServeFault, Session};
 use crate::tally::Tally;
@@ -28,11 +29,12 @@ use crate::volume_file::check_volume;
 use aries_core::Setup;
 use file_devices::FileLog;
 use fuzzy_ckpt::Point;
+use log_records::MAX_RECORDS;
 use page_core::write_out;
 use saved_files::Folder;
 use std::alloc::AllocError;
 use std::fs::File;
-use std::io::Write;
+use std::io::{IsTerminal, Write};
 use std::{fs, io};
 use system_files::{Noted, Notes, Patient, SystemFolder};
 
@@ -255,10 +257,23 @@ fn live(session: &mut FileSession<'_>, first: FirstLine, point: Option<Point>)
     ensures lines { LivesByLines session.old.engine.state session.new.engine.state }
 {
     let (input, output) = (Notes::new(), Notes::new());
+    warn_of_room(session);
     put_point(session, point);
     let served = serve_all(session, first, &input, &output);
     note_served(session, served, &input, &output);
     session.close();
+}
+
+/// Tells a person that nine tenths of a log are used, if they are.
+fn warn_of_room(session: &FileSession<'_>) {
+    let records = session.engine.log().records().len();
+    if records.saturating_mul(10) >= MAX_RECORDS.saturating_mul(9) {
+        let left = MAX_RECORDS.saturating_sub(records);
+        session.teller.tell(
+            Place::Log,
+            &format_args!("nine tenths of it are used: it takes {left} more records"),
+        );
+    }
 }
 
 /// Puts the master record of the log's last checkpoint in place, if it is not there.
@@ -289,12 +304,16 @@ fn serve_all(
     ensures { ServesLines session.old.engine.state session.new.engine.state }
 {
     let rt = session.teller.rt;
-    let reader = Patient {
-        stream: Noted {
-            file: rt.stdin(),
-            notes: input,
+    let reader = Prompted {
+        stream: Patient {
+            stream: Noted {
+                file: rt.stdin(),
+                notes: input,
+            },
+            rt,
         },
         rt,
+        is_terminal: rt.stdin().is_terminal(),
     };
     let mut writer = Patient {
         stream: Noted {

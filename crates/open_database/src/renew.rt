@@ -3,8 +3,8 @@
 ghost use Rattle.std.specs.Prelude.{IfOk, length};
 ghost use Rattle.log_records.specs.Log.{IsPageCount};
 
-use crate::answered::{answer, is_well};
 use crate::begin::{FileEngine, begin};
+use crate::checkpoint_and_copy::checkpoint_and_copy;
 use crate::claims_soon::ClaimsSoon;
 use crate::closed_volume::{have_same_numbers, read_closed};
 use crate::fault::OpenFault;
@@ -40,9 +40,6 @@ const MOST_RECORDS: u64 = MAX_RECORDS as u64 / 2;
 
 /// What follows the name of the new folder as long as it is not whole.
 const UNFINISHED: &str = ".unfinished-1";
-
-/// The lines that a new database answers last.
-const LINES: &str = "checkpoint\ncopy\n";
 
 /// Makes a new database of the numbers of a closed one: it has as many pages, each slot has the
 /// number that was committed in the old one, and its log begins anew, with a complete checkpoint and
@@ -217,9 +214,9 @@ fn finished<'a>(
         tally: Tally::new(),
         has_failed: false,
     };
-    let is_made = answer(&mut session, LINES);
+    let is_made = checkpoint_and_copy(&mut session, None);
     session.close();
-    if is_made && is_well(&session) {
+    if is_made && !session.has_failed {
         OpenEnd::Well
     } else {
         OpenEnd::Failed

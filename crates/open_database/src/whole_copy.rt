@@ -1,6 +1,5 @@
 //! A copy of all pages, which is made at once.
 
-
 use crate::place::Place;
 use crate::said::Said;
 use crate::session::{Session, TellsWhy};
@@ -16,35 +15,35 @@ impl<F: Folder, S: PageStore, D: LogDevice + TellsWhy> Session<'_, F, S, D> {
     /// Makes a copy of all pages, on this one or a full one, and puts its file in place. Answers what
     /// is said of its sealing; or of the call that was refused, and then the copy is dropped. A page
     /// that cannot be read is repaired from the newest copy first.
-    pub(crate) fn whole_copy(&mut self, on: Option<CopyId>) -> Said
+    pub(crate) fn whole_copy(&mut self, on: Option<u32>) -> Said
         requires { F.is_claimed self.old.folder }
         ensures claimed { F.is_claimed self.new.folder }
     {
         let begun = match on {
-            Some(parent) => self.made(Event::CopyInc(parent)),
-            None => self.made(Event::CopyFull),
+            Some(parent) => self.begin_increment(parent),
+            None => self.begin_copy(None),
         };
         match begun {
-            Said::Reply(Ok(Answer::Copied(id))) => self.filled_copy(id),
+            Said::Reply(Ok(Answer::Copied(id))) => self.filled_copy(id.0),
             refused => refused,
         }
     }
 
     /// Takes each page into a copy that was begun, and seals it.
-    fn filled_copy(&mut self, id: CopyId) -> Said
+    fn filled_copy(&mut self, id: u32) -> Said
         requires { F.is_claimed self.old.folder }
         ensures claimed { F.is_claimed self.new.folder }
     {
         match self.take_pages(id) {
-            Ok(()) => self.made(Event::Seal(id)),
+            Ok(()) => self.made(Event::Seal(CopyId(id))),
             Err(refused) => {
-                let _dropped = self.made(Event::DropCopy(id));
+                let _dropped = self.made(Event::DropCopy(CopyId(id)));
                 refused
             }
         }
     }
 
-    fn take_pages(&mut self, id: CopyId) -> Result<(), Said>
+    fn take_pages(&mut self, id: u32) -> Result<(), Said>
         requires { F.is_claimed self.old.folder }
         ensures claimed { F.is_claimed self.new.folder }
     {
@@ -57,18 +56,21 @@ impl<F: Folder, S: PageStore, D: LogDevice + TellsWhy> Session<'_, F, S, D> {
     }
 
     /// Takes a page. One that cannot be read is repaired, and then taken.
-    fn take_page(&mut self, id: CopyId, page: PageNo) -> Result<(), Said>
+    fn take_page(&mut self, id: u32, page: PageNo) -> Result<(), Said>
         requires { F.is_claimed self.old.folder }
         ensures claimed { F.is_claimed self.new.folder }
     {
-        match self.made(Event::Take { copy: id, page }) {
+        match self.made(Event::Take {
+            copy: CopyId(id),
+            page,
+        }) {
             Said::Reply(Ok(_)) => Ok(()),
             Said::Reply(Err(Refusal::StoreFault)) => self.repair_and_take(id, page),
             refused => Err(refused),
         }
     }
 
-    fn repair_and_take(&mut self, id: CopyId, page: PageNo) -> Result<(), Said>
+    fn repair_and_take(&mut self, id: u32, page: PageNo) -> Result<(), Said>
         requires { F.is_claimed self.old.folder }
         ensures claimed { F.is_claimed self.new.folder }
     {
@@ -84,7 +86,10 @@ impl<F: Folder, S: PageStore, D: LogDevice + TellsWhy> Session<'_, F, S, D> {
             Place::Volume,
             &format_args!("page {number} could not be read, and was repaired from `copy-{of}`"),
         );
-        match self.made(Event::Take { copy: id, page }) {
+        match self.made(Event::Take {
+            copy: CopyId(id),
+            page,
+        }) {
             Said::Reply(Ok(_)) => Ok(()),
             refused => Err(refused),
         }

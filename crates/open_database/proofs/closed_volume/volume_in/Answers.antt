@@ -1,5 +1,5 @@
-use Rattle.std.proofs.Common.{◌∙◌, subst, sym}
-use Rattle.std.specs.Prelude.{Option}
+use Rattle.std.proofs.Common.{◌≡◌, ◌∙◌, false, is_some, refl, subst, sym, true≢false}
+use Rattle.std.specs.Prelude.{None, Option, Some}
 use Rattle.log_front.specs.Front.{IsFrontOf}
 use Rattle.log_front.specs.declared.cut.Cut.{Cut}
 use Rattle.log_records.specs.Log.{IsPageCount}
