@@ -1,6 +1,5 @@
 -- The first bytes of a disk, which stay where something is written or cut behind them.
-use Rattle.std.proofs.Common.{◌≡◌, ℕ, ◌+◌, ◌-◌, ◌<◌, ◌≤◌, List, [], ◌++◌, length, take, slice_index, sym, ap, refl, ◌∙◌, arith, inl, inr, ext_get_or, get_or-take}
-use Rattle.std.specs.Prelude.{Bool, true, Result, Ok, Err, IsTrue, OnOk, is_ok}
+use Rattle.std.proofs.Common.{◌≡◌, ℕ, ◌+◌, ◌-◌, ◌<◌, ◌≤◌, List, ◌++◌, length, take, slice_index, sym, ap, refl, ◌∙◌, arith, inl, inr, ext_get_or, get_or-take}
 use Rattle.std.proofs.lemmas.Bool.{cases_lt}
 use Rattle.std.proofs.lemmas.List.{get_or-append_right, get_or_append_left, length-append, length-take}
 use Rattle.sqlite_disk.specs.Disk.{Cut, Follows, Holds, Only, Torn}

@@ -1,10 +1,10 @@
 -- What holds of a log on a disk at each moment stays so.
-use Rattle.std.proofs.Common.{◌≡◌, ℕ, ◌+◌, ◌-◌, ◌^◌, ◌<◌, ◌≤◌, min, List, [], ◌∷◌, ◌++◌, length, take, drop, ap, refl, sym, subst, ◌∙◌, arith}
+use Rattle.std.proofs.Common.{◌≡◌, ℕ, ◌+◌, ◌-◌, ◌^◌, ◌<◌, ◌≤◌, List, [], ◌∷◌, ◌++◌, length, take, drop, ap, sym, subst, ◌∙◌, arith}
 use Rattle.std.proofs.Math.Seq.{take-append-add, take-append_seam}
 use Rattle.std.proofs.lemmas.List.{append-nil, append_assoc, length-append, length-take, take_all, take_at, take-append-le, take-take}
 use Rattle.std.specs.Prelude.{Bool, IsTrue, OnOk, Result, Ok, Err, is_ok, true, false, replicate}
 use mathlib.Core.Bool.{true≢false}
-use Rattle.file_devices.specs.Calls.{done, failed}
+use Rattle.file_devices.specs.Calls.{done}
 use Rattle.file_devices.specs.FileLog.{IsKept, IsTrusted, Known, LogOnDisk, bytes_of, known_of, synced_of, with_len}
 use Rattle.file_devices.specs.TrackedDisk.{Begins, BeginsEach}
 use Rattle.file_devices.specs.declared.calls.FileCall.{FileCall}

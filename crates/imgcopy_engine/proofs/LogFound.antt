@@ -35,7 +35,8 @@ module _ {D : Type 0} where
       ([], ap (λ (it : LogOnDisk D). it.calls) same ∙ sym (append-nil old.calls))
   between_goes_on records from to old new (in_one_sync stored some each synced) = (
     puts_of stored ++ done Sync ∷ [],
-    synced.ok ∙ ap (λ calls. calls ++ puts_of stored ++ done Sync ∷ []) (each_asks_nothing _ old stored each),
+    synced.ok ∙ ap (λ calls. calls ++ puts_of stored ++ done Sync ∷ []) (each_asks_nothing _ old stored each)
+        ∙ append_assoc old.calls (puts_of stored) (done Sync ∷ []),
   )
 
   pub calls_go_on : (log more : Log) (old new : LogOnDisk D) → ForcesMore stores syncs log more old new

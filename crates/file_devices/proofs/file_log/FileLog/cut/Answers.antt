@@ -1,12 +1,11 @@
-use Rattle.std.proofs.Common.{rules, ◌≡◌, ◌+◌, ◌-◌, ◌^◌, ◌<◌, ◌≤◌, [], ◌∷◌, ◌++◌, length, take, ap, refl, sym, subst, ◌∙◌, arith}
+use Rattle.std.proofs.Common.{rules, ◌≡◌, [], ◌∷◌, ◌++◌, length, ap, refl, sym, subst, ◌∙◌, arith}
 use Rattle.std.proofs.lemmas.List.{length-take}
-use Rattle.std.specs.Prelude.{IsTrue, is_ok, true, false}
+use Rattle.std.specs.Prelude.{is_ok, true}
 use Rattle.file_devices.specs.Calls.{call, done}
-use Rattle.file_devices.specs.FileLog.{IsTrusted, LogOnDisk, bytes_of, known_of, synced_of}
-use Rattle.file_devices.specs.TrackedDisk.{Begins}
-use Rattle.file_devices.specs.declared.calls.Request.TheVariants.{SetLen, Sync, Write}
-use Rattle.file_devices.proofs.Kept.{front_of_both, front_of_synced, kept_alone, kept_next, kept_settled, length-bytes, length-synced, never, three_calls, when_ok}
-use Rattle.file_devices.proofs.Knowns.{KnowsFirst, bytes-cut, bytes-written, knows-cut, knows-written, lasting_there}
+use Rattle.file_devices.specs.FileLog.{LogOnDisk, known_of, synced_of}
+use Rattle.file_devices.specs.declared.calls.Request.TheVariants.{SetLen}
+use Rattle.file_devices.proofs.Kept.{kept_next, when_ok}
+use Rattle.file_devices.proofs.Knowns.{KnowsFirst, bytes-cut, knows-cut}
 use Rattle.file_devices.proofs.file_log.FileLog.cut.Goals as goal
 
 pub invariant_of-self-2 : goal.invariant_of-self-2

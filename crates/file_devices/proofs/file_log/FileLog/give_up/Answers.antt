@@ -1,4 +1,4 @@
-use Rattle.std.proofs.Common.{◌≡◌, length, take, ap, arith}
+use Rattle.std.proofs.Common.{length, take, ap, arith}
 use Rattle.std.proofs.lemmas.List.{length-append, length-take}
 use Rattle.file_devices.specs.FileLog.{LogOnDisk, known_of}
 use Rattle.file_devices.proofs.Knowns.{lasting_there}

@@ -1,12 +1,6 @@
-use Rattle.std.proofs.Common.{rules, ◌≡◌, ◌+◌, ◌-◌, ◌^◌, ◌<◌, ◌≤◌, [], ◌∷◌, ◌++◌, length, take, ap, refl, sym, subst, ◌∙◌, arith}
-use Rattle.std.proofs.lemmas.List.{length-take}
-use Rattle.std.specs.Prelude.{IsTrue, is_ok, true, false}
-use Rattle.file_devices.specs.Calls.{call, done}
-use Rattle.file_devices.specs.FileLog.{IsTrusted, LogOnDisk, bytes_of, known_of, synced_of}
-use Rattle.file_devices.specs.TrackedDisk.{Begins}
-use Rattle.file_devices.specs.declared.calls.Request.TheVariants.{SetLen, Sync, Write}
-use Rattle.file_devices.proofs.Kept.{front_of_both, front_of_synced, kept_alone, kept_next, kept_settled, length-bytes, length-synced, never, three_calls, when_ok}
-use Rattle.file_devices.proofs.Knowns.{KnowsFirst, bytes-cut, bytes-written, knows-cut, knows-written, lasting_there}
+use Rattle.std.proofs.Common.{length, ap, arith}
+use Rattle.file_devices.specs.FileLog.{LogOnDisk, bytes_of, known_of}
+use Rattle.file_devices.proofs.Kept.{length-bytes}
 use Rattle.file_devices.proofs.file_log.FileLogLogDevice.sync.Goals as goal
 
 pub settle-requires-clause-alone : goal.settle-requires-clause-alone
