@@ -1,5 +1,6 @@
 pub mod Collisions
 pub mod Apart
+pub mod Checks
 pub mod Numbers
 pub mod Digits
 pub mod NoPieces

@@ -1,3 +1,4 @@
+pub mod Checking
 pub mod Entries
 pub mod Fault
 pub mod Pieces

@@ -2,6 +2,7 @@
 //! `sha256sum -c` checks, and sums of bytes that come piece by piece.
 #![tactic(auto)]
 
+mod checked_reader;
 mod entry;
 mod fault;
 mod laws;
@@ -15,6 +16,7 @@ mod summing_writer;
 mod sums;
 mod text;
 
+pub use checked_reader::CheckedReader;
 pub use entry::{Entry, Extent, FileSum, is_name};
 pub use fault::{LineFault, ManifestFault, NoteFault};
 pub use laws::{collisions_are_at_hand, manifests_are_told_apart, what_is_noted_is_known};

@@ -2,7 +2,7 @@
 
 ghost use Rattle.std.specs.Prelude.{◌≡◌, ◌<◌, ◌++◌, List, ℕ, [], IfOk, length, OnOk};
 ghost use Rattle.std.specs.Io.KnownBytes.{IsAtEnd};
-ghost use Rattle.manifest.specs.Sums.{HasSummed, IsSumOf, IsSumOfGiven};
+ghost use Rattle.manifest.specs.Sums.{HasSummed, IsSumOf, IsSumOfGiven, count_of};
 
 use crate::sum::Sum;
 use sha2::{Digest, Sha256};
@@ -34,6 +34,13 @@ impl Sums {
     {
         self.hasher.update(bytes);
         self.count = self.count.saturating_add(bytes.len() as u64);
+    }
+
+    /// How many bytes there are so far.
+    pub(crate) fn count(&self) -> u64
+        ensures { (all : List ℕ) → HasSummed self.now all → result ≡ count_of all }
+    {
+        self.count
     }
 
     /// The sum and the count of the bytes so far, behind which more may follow.
