@@ -1,0 +1,2 @@
+mod Lefts
+mod Rights

@@ -1,0 +1,80 @@
+//! The manifest of what an engine leaves.
+
+ghost use Rattle.std.specs.Prelude.{◌≡◌, ℕ, List, IfOk, OnOk};
+ghost use Rattle.manifest.specs.Sums.{IsSumOf};
+ghost use Rattle.saved_files.specs.PutFault.{bytes_by};
+ghost use Rattle.saved_files.specs.Saved.{name_of, parts_of};
+ghost use Rattle.checked_files.specs.Left.{AreNoted, Notes};
+
+use copy_coverage::Retired;
+use copy_vault::{CopyId, MAX_COPIES};
+use manifest::{DatabaseName, Extent, FileSum, Manifest, Sum, Sums};
+use saved_files::{FileFault, SavedName, Source};
+use std::alloc::{AllocError, Global};
+
+/// The manifest of the files that `save_files` saves of what an engine leaves: the log, which may
+/// grow, the master record if there is one, and each complete copy. It is made of what is in
+/// memory; each file is so for a moment. `AllocError` comes where memory is refused.
+pub fn manifest_of(
+    alloc: Global,
+    database: DatabaseName,
+    retired: &Retired,
+) -> Result<Manifest, AllocError>
+    ensures database { IfOk result (λ it. it.database ≡ database.0) }
+    ensures noted { IfOk result (λ it. AreNoted (parts_of retired.now) it.entries) }
+{
+    let mut manifest = Manifest::new(alloc, database);
+    note_file(&mut manifest, alloc, SavedName::Log, retired.log())?;
+    if let Some(master) = retired.master() {
+        note_file(&mut manifest, alloc, SavedName::Master, master)?;
+    }
+    let vault = retired.vault();
+    for id in 1..=MAX_COPIES {
+        if let Some(copy) = vault.complete(CopyId(id)) {
+            note_file(&mut manifest, alloc, SavedName::Copy(CopyId(id)), copy)?;
+        }
+    }
+    Ok(manifest)
+}
+
+/// Notes a file under its name.
+fn note_file<S: Source<Fault = FileFault> + Drop>(
+    manifest: &mut Manifest,
+    alloc: Global,
+    file: SavedName,
+    source: S,
+) -> Result<(), AllocError>
+    ensures noted { OnOk result (Notes (name_of file) (bytes_by (S.gives source))
+        manifest.old.entries manifest.new.entries) }
+    ensures database { manifest.new.database ≡ manifest.old.database }
+{
+    let name = format!(in alloc; "{file}")?;
+    let (sum, bytes) = sum_of_source(alloc, source)?;
+    let extent = match file {
+        SavedName::Log => Extent::First,
+        _ => Extent::Whole,
+    };
+    let known = FileSum { extent, bytes, sum };
+    match manifest.note(name.as_str(), known) {
+        Ok(()) => Ok(()),
+        Err(_) => Err(AllocError),
+    }
+}
+
+/// The sum and the count of the bytes that a source gives.
+fn sum_of_source<S: Source<Fault = FileFault> + Drop>(
+    alloc: Global,
+    mut source: S,
+) -> Result<(Sum, u64), AllocError>
+    ensures { IfOk result (λ it. (bytes : List ℕ)
+        × bytes_by (S.gives source) bytes × IsSumOf it.0 it.1 bytes) }
+{
+    let mut bytes = Vec::new(alloc);
+    match source.write_to(alloc, &mut bytes) {
+        Ok(()) => {}
+        Err(_) => return Err(AllocError),
+    }
+    let mut sums = Sums::new();
+    sums.update(&bytes);
+    Ok(sums.finish())
+}
