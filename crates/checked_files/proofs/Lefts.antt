@@ -8,7 +8,7 @@ use Rattle.std.proofs.Math.ListN.{get_or-eq_default}
 use Rattle.std.specs.Io.KnownBytes.{Appends}
 use Rattle.manifest.specs.Entries.{Noted, file_of}
 use Rattle.manifest.specs.Sums.{IsSumOf}
-use Rattle.manifest.proofs.Names.{noted_known, others_kept}
+use Rattle.manifest.proofs.Public.{noted_known, others_kept}
 use Rattle.copy_archives.specs.Archive.{archive_bytes}
 use Rattle.image_copies.specs.Copy.{CopyView}
 use Rattle.copy_vault.specs.Vault.{CopyState, complete_of, dropped, state_of}

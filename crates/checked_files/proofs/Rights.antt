@@ -1,5 +1,5 @@
 -- Files that are refused where they are not the ones that are named.
-use Rattle.std.proofs.Common.{◌≡◌, ◌<◌, ◌≤◌, ◌^◌, ◌++◌, ℕ, List, [], ◌∷◌, length, map, refl, ap, arith}
+use Rattle.std.proofs.Common.{◌≡◌, ◌<◌, ◌≤◌, ◌^◌, ◌++◌, ◌∙◌, ◌*◌, ℕ, List, [], ◌∷◌, length, map, refl, ap, arith}
 use Rattle.std.proofs.Common.{Bool, true, false, None, Some, IfSome}
 use Rattle.std.specs.Prelude.{Option, if◌then◌else◌, replicate}
 use Rattle.std.specs.List.{AllByRecursion}
@@ -7,21 +7,21 @@ use Rattle.std.specs.Io.KnownBytes.{append_known}
 use Rattle.std.proofs.lemmas.List.{length-append, length-replicate}
 use Rattle.manifest.specs.declared.entry.FileSum.{FileSum}
 use Rattle.manifest.specs.Checking.{is_named, too_many}
-use Rattle.manifest.proofs.Checks.{is_decided}
+use Rattle.manifest.proofs.Public.{is_decided}
 use Rattle.log_records.specs.Log.{Log, SpellsLog}
-use Rattle.log_records.proofs.Logs.{length-log}
+use Rattle.log_records.proofs.Public.{length-log}
 use Rattle.log_store.specs.declared.master.Master.{Master}
 use Rattle.log_store.specs.Master.{SpellsMaster}
-use Rattle.log_store.proofs.Masters.{length-master_bytes}
+use Rattle.log_store.proofs.Public.{length-master_bytes}
 use Rattle.copy_archives.specs.declared.header.ArchiveHeader.{ArchiveHeader}
 use Rattle.copy_archives.specs.Archive.{IsKindOf, SpellsCopy, header_bytes, header_in, header_of}
 use Rattle.copy_archives.specs.ChainReading.{SpellCopies}
-use Rattle.copy_archives.proofs.Fronts.{volume_length}
-use Rattle.copy_archives.proofs.Headers.{length-header_bytes}
 use Rattle.image_copies.specs.declared.copy_id.CopyKind.{CopyKind}
 use Rattle.image_copies.specs.declared.copy_id.CopyKind.TheVariants.{Full, Inc}
 use Rattle.image_copies.specs.Copy.{CopyView, taken_pages}
-use Rattle.page_core.specs.Page.{volume_bytes}
+use Rattle.page_core.specs.declared.page.Page.{Page}
+use Rattle.page_core.specs.Page.{IsPage, page_bytes, volume_bytes}
+use Rattle.page_core.proofs.Public.{length-page_bytes}
 use Rattle.media_restore.specs.Files.{HasParts}
 use Rattle.saved_files.specs.Restored.{files_by}
 use Rattle.saved_files.specs.declared.restore_names.RestoreNames.{RestoreNames}
@@ -65,6 +65,17 @@ most_taken : (kind : CopyKind) (h : ArchiveHeader) → IsKindOf kind h → h.tak
 most_taken Full h it = omega (arith, it)
 most_taken (Inc parent) h it = it.2
 
+header_length : (h : ArchiveHeader) → length (header_bytes h) ≡ 64
+unfolding header_bytes
+header_length h = refl
+
+pages_length : (pages : List Page) → AllByRecursion IsPage pages
+    → length (volume_bytes pages) ≡ 512 * length pages
+pages_length [] all = omega arith
+pages_length (page ∷ pages) all =
+    length-append (page_bytes page) (volume_bytes pages)
+    ∙ omega (arith, length-page_bytes page all.0.count, pages_length pages all.1)
+
 pub few_of_copy : (copy : CopyView) (bytes : List ℕ) → SpellsCopy copy bytes → length bytes < 2 ^ 64
 few_of_copy copy bytes it =
     let header = it.valid.header in
@@ -74,8 +85,8 @@ few_of_copy copy bytes it =
       arith,
       ap length it.spelled,
       length-append front (volume_bytes pages),
-      length-header_bytes (header_in it.format copy),
-      volume_length pages it.valid.pages,
+      header_length (header_in it.format copy),
+      pages_length pages it.valid.pages,
       most_taken copy.kind (header_of copy) header.kind,
       header.few_pages,
     )

@@ -2,6 +2,7 @@ pub mod Collisions
 pub mod Apart
 pub mod Checks
 pub mod Numbers
+pub mod Public
 pub mod Digits
 pub mod NoPieces
 pub mod Names

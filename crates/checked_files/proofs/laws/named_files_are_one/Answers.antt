@@ -1,5 +1,5 @@
 use Rattle.manifest.specs.Checking.{part_of}
-use Rattle.manifest.proofs.Collisions.{at_hand}
+use Rattle.manifest.proofs.Public.{at_hand}
 use Rattle.checked_files.proofs.laws.named_files_are_one.Goals as goal
 
 pub returns : goal.returns
