@@ -4,10 +4,11 @@ ghost use Rattle.std.specs.Prelude.{◌≡◌, ◌⊎◌, IfErr, OnOk};
 ghost use Rattle.std.specs.Process.{exit_status};
 ghost use Rattle.script_run.specs.Status.{status_of_audit};
 
-use crate::advice::{tell_audited, tell_input};
+use crate::manifests::Checks;
 use crate::read_once::ReadOnce;
 use crate::reasons::Named;
 use crate::{answered, told_unprinted};
+use checked_files::CheckedFiles;
 use copy_audit::{Sound, Unsound};
 use copy_vault::CopyId;
 use file_view::ViewFault;
@@ -21,25 +22,45 @@ use system_files::{Notes, SystemFiles};
 /// the log twice reads it once where it is no regular file.
 pub fn audit(rt: &HostRuntime, names: &Named<'_>, all: bool) -> ExitCode {
     let notes = Notes::new();
+    let Some(checks) = Checks::of(rt, names) else {
+        return ExitCode::from(FAULT_STATUS);
+    };
     if names.master.is_none() && !all {
         let files = SystemFiles {
             files: rt,
             notes: &notes,
         };
-        return audit_in(rt, &files, names, &notes, all);
+        return audit_checked(rt, &files, names, &notes, all, &checks);
     }
     match ReadOnce::of(rt, names, &notes) {
-        Ok(files) => audit_in(rt, &&files, names, &notes, all),
+        Ok(files) => audit_checked(rt, &&files, names, &notes, all, &checks),
         Err(fault) => {
             let fault = match fault {
                 ViewFault::OutOfMemory => Unsound::OutOfMemory,
                 _ => Unsound::ReadFault,
             };
             let status = answered(rt, &fault, audit_status(&fault));
-            tell_audited(rt, names, &fault, &notes);
+            checks.tell_audited(rt, names, &fault, &notes);
             status
         }
     }
+}
+
+/// Audits these files, which are checked where a manifest names them.
+fn audit_checked<N: NamedFiles>(
+    rt: &HostRuntime,
+    files: &N,
+    names: &Named<'_>,
+    notes: &Notes,
+    all: bool,
+    checks: &Checks<'_>,
+) -> ExitCode {
+    let files = CheckedFiles {
+        files,
+        expected: checks.expected.as_slice(),
+        notes: &checks.notes,
+    };
+    audit_in(rt, &files, names, notes, all, checks)
 }
 
 fn audit_in<N: NamedFiles>(
@@ -48,18 +69,19 @@ fn audit_in<N: NamedFiles>(
     names: &Named<'_>,
     notes: &Notes,
     all: bool,
+    checks: &Checks<'_>,
 ) -> ExitCode {
     if let Some(master) = names.master {
         if let Err(fault) = check_master(files, rt.alloc(), names.log, master) {
             let status = answered(rt, &fault, restore_status(&fault));
-            tell_input(rt, names, &fault, notes);
+            checks.tell_input(rt, names, &fault, notes);
             return status;
         }
     }
     let done = audit_files(files, rt.alloc(), names.log, names.archives);
     let status = status_of_audit(rt, &done);
     if let Err(fault) = &done {
-        tell_audited(rt, names, fault, notes);
+        checks.tell_audited(rt, names, fault, notes);
         if all {
             if let Unsound::Unsound(copy, page) = fault {
                 return told_others(rt, files, names, (*copy, *page), status);

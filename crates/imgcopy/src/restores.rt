@@ -4,16 +4,17 @@ ghost use Rattle.std.specs.Prelude.{◌≡◌, IfErr, OnOk};
 ghost use Rattle.std.specs.Process.{exit_status};
 ghost use Rattle.script_run.specs.Status.{status_of_restore};
 
-use crate::advice::{tell_input, tell_unwritten};
+use crate::advice::tell_unwritten;
+use crate::checked_restores::{
+    checked_volume, put_checked_both, put_checked_log, put_checked_volume,
+};
+use crate::manifests::Checks;
 use crate::output::{Inputs, Limits, have_one_folder, is_one_place, tell, tell_output};
 use crate::output_folder::OutputFolder;
 use crate::reasons::Named;
 use crate::{noted, patient, refused_terminal};
 use media_restore::{RestoreFault, WithLogFault};
-use saved_files::{
-    PutBothFault, PutFault, PutStoredFault, RestoreNames, Which, put_restored_both,
-    put_restored_log, put_restored_volume, restore_volume,
-};
+use saved_files::{PutBothFault, PutFault, PutStoredFault, RestoreNames, Which};
 use script_run::{FAULT_STATUS, restore_status};
 use std::io;
 use std::io::IsTerminal;
@@ -30,7 +31,8 @@ pub struct Outputs<'a> {
     pub force: bool,
 }
 
-/// Restores a volume from files, and its log if a file for that is named.
+/// Restores a volume from files, and its log if a file for that is named. A file that a manifest
+/// names has to be that file.
 pub fn restore(
     rt: &HostRuntime,
     threads: &(impl Threads + Sync),
@@ -38,16 +40,30 @@ pub fn restore(
     master: &str,
     outputs: Outputs<'_>,
 ) -> ExitCode {
+    match Checks::of(rt, names) {
+        Some(checks) => restore_checked(rt, threads, names, master, &checks, outputs),
+        None => ExitCode::from(FAULT_STATUS),
+    }
+}
+
+fn restore_checked(
+    rt: &HostRuntime,
+    threads: &(impl Threads + Sync),
+    names: &Named<'_>,
+    master: &str,
+    checks: &Checks<'_>,
+    outputs: Outputs<'_>,
+) -> ExitCode {
     let limits = Limits {
         inputs: Inputs::Named(names),
         force: outputs.force,
     };
     match (outputs.volume, outputs.log) {
-        (None, None) => restore_out(rt, threads, names, master),
-        (Some(path), None) => restore_into(rt, threads, names, master, (path, limits)),
-        (None, Some(log)) => restore_log_into(rt, threads, names, master, (log, limits)),
+        (None, None) => restore_out(rt, threads, names, master, checks),
+        (Some(path), None) => restore_into(rt, threads, names, master, checks, (path, limits)),
+        (None, Some(log)) => restore_log_into(rt, threads, names, master, checks, (log, limits)),
         (Some(path), Some(log)) => {
-            restore_both_into(rt, threads, names, master, (path, log, limits))
+            restore_both_into(rt, threads, names, master, checks, (path, log, limits))
         }
     }
 }
@@ -58,6 +74,7 @@ fn restore_out(
     threads: &(impl Threads + Sync),
     names: &Named<'_>,
     master: &str,
+    checks: &Checks<'_>,
 ) -> ExitCode {
     if rt.stdout().is_terminal() {
         return refused_terminal(rt);
@@ -67,19 +84,18 @@ fn restore_out(
         files: rt,
         notes: &notes,
     };
-    let done = restore_volume(
+    let done = checked_volume(
         &files,
+        checks,
         threads,
         rt.alloc(),
-        names.log,
-        master,
-        names.archives,
+        restored_from(names, master),
         &mut noted(patient(rt, io::writer(rt)), &output),
     );
     let status = status_of_files(rt, &done);
     match &done {
         Err(RestoreFault::WriteFault(_)) => tell_unwritten(rt, &output),
-        Err(fault) => tell_input(rt, names, fault, &notes),
+        Err(fault) => checks.tell_input(rt, names, fault, &notes),
         Ok(()) => {}
     }
     status
@@ -91,6 +107,7 @@ fn restore_into(
     threads: &(impl Threads + Sync),
     names: &Named<'_>,
     master: &str,
+    checks: &Checks<'_>,
     output: (&str, Limits<'_>),
 ) -> ExitCode {
     let (path, limits) = output;
@@ -103,13 +120,13 @@ fn restore_into(
         notes: &notes,
     };
     let (name, from) = (folder.name(), restored_from(names, master));
-    match put_restored_volume(&mut folder, rt.alloc(), name, &files, threads, from) {
+    match put_checked_volume(&mut folder, rt.alloc(), name, &files, checks, threads, from) {
         Ok(()) => ExitCode::SUCCESS,
         Err(PutStoredFault::Unput(PutFault::Unwritten(fault))) => {
             let status = status_of_files(rt, &Err(fault));
             match &fault {
                 RestoreFault::WriteFault(_) => tell_output(rt, path, &written),
-                fault => tell_input(rt, names, fault, &notes),
+                fault => checks.tell_input(rt, names, fault, &notes),
             }
             status
         }
@@ -124,6 +141,7 @@ fn restore_log_into(
     threads: &(impl Threads + Sync),
     names: &Named<'_>,
     master: &str,
+    checks: &Checks<'_>,
     output: (&str, Limits<'_>),
 ) -> ExitCode {
     let (path, limits) = output;
@@ -140,11 +158,12 @@ fn restore_log_into(
     };
     let mut volume = noted(patient(rt, io::writer(rt)), &output);
     let (name, from) = (folder.name(), restored_from(names, master));
-    let done = put_restored_log(
+    let done = put_checked_log(
         &mut folder,
         rt.alloc(),
         name,
         &files,
+        checks,
         threads,
         from,
         &mut volume,
@@ -158,7 +177,7 @@ fn restore_log_into(
                 WithLogFault::OfVolume(RestoreFault::WriteFault(_)) => {
                     tell_unwritten(rt, &output);
                 }
-                WithLogFault::OfVolume(fault) => tell_input(rt, names, fault, &notes),
+                WithLogFault::OfVolume(fault) => checks.tell_input(rt, names, fault, &notes),
             }
             status
         }
@@ -175,6 +194,7 @@ fn restore_both_into(
     threads: &(impl Threads + Sync),
     names: &Named<'_>,
     master: &str,
+    checks: &Checks<'_>,
     outputs: (&str, &str, Limits<'_>),
 ) -> ExitCode {
     let (path, log, limits) = outputs;
@@ -192,13 +212,14 @@ fn restore_both_into(
         notes: &notes,
     };
     let (log_name, name) = (log_folder.name(), folder.name());
-    let done = put_restored_both(
+    let done = put_checked_both(
         &mut log_folder,
         log_name,
         &mut folder,
         name,
         rt.alloc(),
         &files,
+        checks,
         threads,
         restored_from(names, master),
     );
@@ -211,7 +232,7 @@ fn restore_both_into(
                 WithLogFault::OfVolume(RestoreFault::WriteFault(_)) => {
                     tell_output(rt, path, &written);
                 }
-                WithLogFault::OfVolume(fault) => tell_input(rt, names, fault, &notes),
+                WithLogFault::OfVolume(fault) => checks.tell_input(rt, names, fault, &notes),
             }
             status
         }

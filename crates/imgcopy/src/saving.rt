@@ -2,6 +2,7 @@
 
 use crate::advice::{tell_stale, tell_unsaved};
 use crate::leftovers::tell_left;
+use crate::manifest_output::{has_manifest, put_manifest};
 use crate::output::{tell, tell_kept};
 use copy_coverage::Retired;
 use copy_vault::{CopyId, MAX_COPIES};
@@ -34,7 +35,8 @@ impl Saving<'_> {
         }
     }
 
-    /// Saves what a script left, and says whether all went well. Why it did not is told.
+    /// Saves what a script left, and says whether all went well. Why it did not is told. A folder
+    /// that has a manifest gets that of the new files, behind them.
     pub fn save(&self, rt: &HostRuntime, retired: &Retired) -> bool {
         let (folder, notes) = (self.folder, Notes::new());
         let mut there = SystemFolder::new(rt, rt.alloc(), folder, &notes).guarded(self.force);
@@ -55,6 +57,9 @@ impl Saving<'_> {
         if let Err(fault) = save_files(&mut there, rt.alloc(), retired) {
             let _ = rt.eprintln(&fault);
             tell_unsaved(rt, &there, folder, &fault, retired, &notes);
+            return false;
+        }
+        if has_manifest(rt, folder) && !put_manifest(rt, &mut there, folder, &notes, retired) {
             return false;
         }
         tell_stale(rt, rt.alloc(), folder, retired);
