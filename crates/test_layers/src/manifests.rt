@@ -2,8 +2,8 @@
 
 use crate::asserts::{same, same_at};
 use manifest::{
-    DatabaseName, Extent, FileSum, LineFault, Manifest, ManifestFault, NoteFault, Sum,
-    SummingReader, SummingWriter, Sums, decode, sum_rest,
+    CheckedReader, DatabaseName, Extent, FileSum, LineFault, Manifest, ManifestFault, NoteFault,
+    Sum, SummingReader, SummingWriter, Sums, decode, sum_rest,
 };
 use std::alloc::Global;
 use std::io::{Read, Write};
@@ -247,5 +247,29 @@ fn what_goes_through_is_summed(rt: HostRuntime) -> Result<(), Fail> {
     assert_sum(&rt, alloc, &sum, OF_TEST)?;
     same(&rt, &count, &4);
     same(&rt, &written.as_slice(), &b"test".as_slice());
+    Ok(())
+}
+
+#[test]
+fn a_file_that_is_another_one_has_no_end(rt: HostRuntime) -> Result<(), Fail> {
+    let mut room = [0; 3];
+    let mut source: &[u8] = b"test";
+    let mut reader = CheckedReader::new(&mut source, whole(4));
+    same(&rt, &reader.read(&mut room)?, &3);
+    same(&rt, &reader.read(&mut room)?, &1);
+    same(&rt, &reader.read(&mut room)?, &0);
+    let mut source: &[u8] = b"tesu";
+    let mut reader = CheckedReader::new(&mut source, whole(4));
+    same(&rt, &reader.read(&mut room)?, &3);
+    same(&rt, &reader.read(&mut room)?, &1);
+    same(&rt, &reader.read(&mut room).is_err(), &true);
+    same(&rt, &reader.count(), &4);
+    let mut source: &[u8] = b"testabc";
+    let mut reader = CheckedReader::new(&mut source, first(4));
+    same(&rt, &reader.read(&mut room)?, &3);
+    same(&rt, &reader.read(&mut room)?, &3);
+    same(&rt, &reader.read(&mut room)?, &1);
+    same(&rt, &reader.read(&mut room)?, &0);
+    same(&rt, &reader.count(), &4);
     Ok(())
 }
