@@ -1,3 +1,4 @@
+mod AuditLemmas
 mod ChainLemmas
 mod ClapLemmas
 mod FolderLemmas

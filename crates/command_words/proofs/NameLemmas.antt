@@ -191,13 +191,13 @@ no_version words name first long short asks =
 gives_taken : (words : List Text) (command : Command) → (IsSomeAnd (slice_get words 0) AsksForVersion → ⊥)
     → Gives words command → IsTaken words
 gives_taken words Redo other gives = (0, redo_app, lit< tt, refl, gives)
-gives_taken words (RedoInto output force) other gives = (4, redo_into_app, lit< tt, refl, gives.0)
+gives_taken words (RedoInto output force until) other gives = (4, redo_into_app, lit< tt, refl, gives.0)
 gives_taken words (Run pages frames save strict force) other gives = (1, run_app, lit< tt, refl, gives.0)
 gives_taken words (Open folder pages frames salvage strict) other gives = (5, open_app, lit< tt, refl, gives.0)
-gives_taken words (Restore log master archives output log_output force) other gives =
+gives_taken words (Restore log master archives output log_output force until) other gives =
     (2, restore_app, lit< tt, refl, gives.0)
-gives_taken words (Audit log archives master all) other gives = (3, audit_app, lit< tt, refl, gives.0)
-gives_taken words (Show file from to txn page json) other gives = (6, show_app, lit< tt, refl, gives.0)
+gives_taken words (Audit log archives master all until) other gives = (3, audit_app, lit< tt, refl, gives.0)
+gives_taken words (Show file from to txn page json commits) other gives = (6, show_app, lit< tt, refl, gives.0)
 gives_taken words (ListFolder folder json) other gives = (7, list_app, lit< tt, refl, gives.0)
 gives_taken words (Backup folder on full into) other gives = (8, backup_app, lit< tt, refl, gives.0)
 gives_taken words (Verify folder) other gives = (9, verify_app, lit< tt, refl, gives.0)

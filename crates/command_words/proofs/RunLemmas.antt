@@ -1,13 +1,13 @@
--- What `clap` makes of the arguments of `run`, and of those of `redo` with an output.
-use Rattle.std.proofs.Common.{◌≡◌, ◌⊎◌, List, [], ◌∷◌, None, length, true, ap, subst, arith, codes, is_some, lit<}
+-- What `clap` makes of the arguments of `run`, and of the options of `redo`.
+use Rattle.std.proofs.Common.{◌≡◌, ◌⊎◌, List, [], ◌∷◌, None, length, ap, subst, arith, codes, lit<}
 use Rattle.clap.specs.Built.{HasDistinctIds, IsParsedFrom}
-use Rattle.clap.specs.Words.{first_value, found_of, one_text}
+use Rattle.clap.specs.Words.{found_of, one_text}
 use Rattle.clap.specs.declared.builder.arg.Arg.{Arg}
 use Rattle.clap.specs.declared.builder.command.Command.{Command as Parser}
 use Rattle.clap.specs.declared.parser.matches.ArgMatches.{ArgMatches}
-use Rattle.clap.proofs.CallerLemmas.{required_in_chain}
 use Rattle.command_words.specs.Arguments.{AsksForOutput, AsksForPages, PassesCount, PassesFrames}
-use Rattle.command_words.specs.Arguments.{PassesPages}
+use Rattle.command_words.specs.Arguments.{PassesNumber, PassesPages}
+use Rattle.command_words.proofs.ViewLemmas.{passes_number}
 use Rattle.command_words.proofs.ChainLemmas.{count_in_chain, none_apart, number_in_chain, one_more_apart}
 
 abbrev asked : (cmd : Parser) → AsksForPages cmd → List Arg
@@ -44,19 +44,27 @@ frames_passed cmd m it p =
     (number_in_chain 1 65536 made.start cmd (asked cmd it) 1 it.frames m made.chain made.no_arguments made.no_groups
     made.no_globals made.fit (asked_apart cmd it) (lit< tt) it.frames_parsed p)
 
--- ---- `redo` with an output
+-- ---- `redo` with options
 
-output_apart : (cmd : Parser) (it : AsksForOutput cmd) → HasDistinctIds (it.output ∷ it.force ∷ [])
+abbrev redone : (cmd : Parser) → AsksForOutput cmd → List Arg
+redone cmd it = it.output ∷ it.force ∷ it.until ∷ []
+
+output_apart : (cmd : Parser) (it : AsksForOutput cmd) → HasDistinctIds (redone cmd it)
 output_apart cmd it =
     let output : length it.output.id.now ≡ 4 = ap (λ r. length r.id) it.output_is in
     let force : length it.force.id.now ≡ 10 = ap (λ r. length r.id) it.force_is in
-    one_more_apart it.output (it.force ∷ []) ((λ same. omega arith), tt) (one_more_apart it.force [] tt none_apart)
+    let until : length it.until.id.now ≡ 9 = ap (λ r. length r.id) it.until_is in
+    one_more_apart it.output (it.force ∷ it.until ∷ [])
+    ((λ same. omega arith), ((λ same. omega arith), tt))
+    (one_more_apart it.force (it.until ∷ [])
+    ((λ same. omega arith), tt)
+    (one_more_apart it.until [] tt none_apart))
 
--- the output that it requires
-pub output_given : (cmd : Parser) (m : ArgMatches) → AsksForOutput cmd → IsParsedFrom cmd m
-    → is_some (first_value (found_of m) (codes "into")) ≡ true
-output_given cmd m it p =
+-- the LSN, where it was told
+pub redone_until_passed : (cmd : Parser) (m : ArgMatches) → AsksForOutput cmd → IsParsedFrom cmd m
+    → PassesNumber (found_of m) (codes "until_lsn")
+redone_until_passed cmd m it p =
     let made = it.made in
-    subst (λ id. is_some (first_value (found_of m) id) ≡ true) (ap (λ r. r.id) it.output_is)
-    (required_in_chain made.start cmd (it.output ∷ it.force ∷ []) 0 it.output m made.chain made.no_arguments
-    made.no_groups made.no_globals made.keeps made.fit (output_apart cmd it) (lit< tt) it.output_required p)
+    passes_number 0 67108928 (found_of m) it.until.id.now (codes "until_lsn") (lit< tt) (ap (λ r. r.id) it.until_is)
+    (number_in_chain 0 67108928 made.start cmd (redone cmd it) 2 it.until m made.chain made.no_arguments made.no_groups
+    made.no_globals made.fit (output_apart cmd it) (lit< tt) it.until_parsed p)

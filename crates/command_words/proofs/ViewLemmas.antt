@@ -13,8 +13,7 @@ use Rattle.clap.specs.declared.parser.matches.ArgMatches.{ArgMatches}
 use Rattle.clap.specs.declared.parser.matches.Found.{Found}
 use Rattle.clap.proofs.CallerLemmas.{required_in_chain}
 use Rattle.clap.proofs.CallerReads.{signed_reads}
-use Rattle.command_words.specs.Arguments.{AsksForList, AsksForView, IsMadeOf, PassesIn}
-use Rattle.command_words.specs.Arguments.{PassesNumber}
+use Rattle.command_words.specs.Arguments.{AsksForList, AsksForView, PassesIn, PassesNumber}
 use Rattle.command_words.specs.Command.{IsTold}
 use Rattle.command_words.specs.Command.{folder_rule, json_rule}
 use Rattle.command_words.proofs.ClapLemmas.{is_read}
@@ -33,7 +32,7 @@ rising_apart xs least long j k d e lj lk same =
 -- ---- `show`
 
 abbrev told : (cmd : Parser) → AsksForView cmd → List Arg
-told cmd it = it.file ∷ it.from ∷ it.to ∷ it.txn ∷ it.page ∷ it.json ∷ []
+told cmd it = it.file ∷ it.from ∷ it.to ∷ it.txn ∷ it.page ∷ it.json ∷ it.commits ∷ []
 
 told_apart : (cmd : Parser) (it : AsksForView cmd) → HasDistinctIds (told cmd it)
 told_apart cmd it = rising_apart (told cmd it) 2 long
@@ -45,7 +44,8 @@ told_apart cmd it = rising_apart (told cmd it) 2 long
     long (suc (suc (suc zero))) e lt = ap (λ r. length r.id) it.txn_is
     long (suc (suc (suc (suc zero)))) e lt = ap (λ r. length r.id) it.page_is
     long (suc (suc (suc (suc (suc zero))))) e lt = ap (λ r. length r.id) it.json_is
-    long (suc (suc (suc (suc (suc (suc k)))))) e lt = absurd (omega arith)
+    long (suc (suc (suc (suc (suc (suc zero)))))) e lt = ap (λ r. length r.id) it.commits_is
+    long (suc (suc (suc (suc (suc (suc (suc k))))))) e lt = absurd (omega arith)
 
 -- the file that `show` requires
 pub file_given : (cmd : Parser) (m : ArgMatches) → AsksForView cmd → IsParsedFrom cmd m
@@ -56,7 +56,7 @@ file_given cmd m it p =
     (required_in_chain made.start cmd (told cmd it) 0 it.file m made.chain
     made.no_arguments made.no_groups made.no_globals made.keeps made.fit (told_apart cmd it) (lit< tt) it.required p)
 
-passes_number : (low high : ℕ) (found : Found) (name id : Text) → high < 2 ^ 32 → name ≡ id
+pub passes_number : (low high : ℕ) (found : Found) (name id : Text) → high < 2 ^ 32 → name ≡ id
     → (one_text found name ≡ None) ⊎ PassesIn low high found name → PassesNumber found id
 passes_number low high found name id fits same (inl none) = inl (subst (λ n. one_text found n ≡ None) same none)
 passes_number low high found name id fits same (inr some) =
@@ -136,33 +136,6 @@ listed_folder_given cmd m it p =
     made.no_arguments made.no_groups made.no_globals made.keeps made.fit (two_apart cmd it) (lit< tt) it.required p)
 
 -- ---- commands that are made of their arguments
-
-six_fit : (a b c d e f : Arg) → FitsChain a → FitsChain b → FitsChain c → FitsChain d → FitsChain e → FitsChain f
-    → (k : ℕ) (x : Arg) → k < length (a ∷ b ∷ c ∷ d ∷ e ∷ f ∷ [])
-    → FitsChain (slice_index_or (a ∷ b ∷ c ∷ d ∷ e ∷ f ∷ []) k x)
-six_fit a b c d e f fit-a fit-b fit-c fit-d fit-e fit-f zero x lt = fit-a
-six_fit a b c d e f fit-a fit-b fit-c fit-d fit-e fit-f (suc zero) x lt = fit-b
-six_fit a b c d e f fit-a fit-b fit-c fit-d fit-e fit-f (suc (suc zero)) x lt = fit-c
-six_fit a b c d e f fit-a fit-b fit-c fit-d fit-e fit-f (suc (suc (suc zero))) x lt = fit-d
-six_fit a b c d e f fit-a fit-b fit-c fit-d fit-e fit-f (suc (suc (suc (suc zero)))) x lt = fit-e
-six_fit a b c d e f fit-a fit-b fit-c fit-d fit-e fit-f (suc (suc (suc (suc (suc zero))))) x lt = fit-f
-six_fit a b c d e f fit-a fit-b fit-c fit-d fit-e fit-f (suc (suc (suc (suc (suc (suc k)))))) x lt = absurd (omega arith)
-
-pub made_of_six : (start one two three four five cmd : Parser) (a b c d e f : Arg) → args_of start ≡ []
-    → groups_of start ≡ [] → (fields_of start).has_globals ≡ false → (fields_of start).subcommand_negates_reqs ≡ false
-    → FitsChain a → FitsChain b → FitsChain c → FitsChain d → FitsChain e → FitsChain f
-    → AddsArg start a one → AddsArg one b two → AddsArg two c three → AddsArg three d four → AddsArg four e five
-    → AddsArg five f cmd → IsMadeOf cmd (a ∷ b ∷ c ∷ d ∷ e ∷ f ∷ [])
-made_of_six start one two three four five cmd a b c d e f args groups globals negates fit-a fit-b fit-c fit-d fit-e fit-f
-    first second third fourth fifth sixth = record {
-      start = start;
-      no_arguments = args;
-      no_groups = groups;
-      no_globals = globals;
-      keeps = negates;
-      chain = (one, first, (two, second, (three, third, (four, fourth, (five, fifth, (cmd, sixth, refl))))));
-      fit = λ k x lt. six_fit a b c d e f fit-a fit-b fit-c fit-d fit-e fit-f k x lt;
-    }
 
 two_fit : (a b : Arg) → FitsChain a → FitsChain b → (k : ℕ) (x : Arg) → k < length (a ∷ b ∷ [])
     → FitsChain (slice_index_or (a ∷ b ∷ []) k x)

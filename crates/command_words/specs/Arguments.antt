@@ -14,7 +14,8 @@ use Rattle.command_words.specs.Command.{file_rule, folder_rule, force_rule, fram
 use Rattle.command_words.specs.Command.{full_rule, into_rule, json_rule, log_output_rule, log_rule}
 use Rattle.command_words.specs.Command.{master_rule, old_rule, on_rule, output_rule, page_rule}
 use Rattle.command_words.specs.Command.{pages_rule, renewed_rule, salvage_rule, save_rule}
-use Rattle.command_words.specs.Command.{strict_rule, to_rule, told_pages_rule, txn_rule}
+use Rattle.command_words.specs.Command.{commits_rule, lsn_parser, strict_rule, to_rule}
+use Rattle.command_words.specs.Command.{told_pages_rule, txn_rule, until_rule}
 
 -- clap builds the command of these arguments, one after another
 pub record IsMadeOf (command : Parser) (arguments : List Arg) : Type 0 where
@@ -60,7 +61,7 @@ pub record AsksForFolder (command : Parser) : Type 0 where
   pub pages_parsed : pages.value_parser ≡ Some count_parser
   pub frames_parsed : frames.value_parser ≡ Some count_parser
 
--- two files are required, and then more may be named, one for each output, and a flag
+-- two files are required, and then more may be named, one for each output, a flag and an LSN
 pub record AsksForFiles (command : Parser) : Type 0 where
   pub log : Arg
   pub master : Arg
@@ -68,30 +69,36 @@ pub record AsksForFiles (command : Parser) : Type 0 where
   pub output : Arg
   pub log_output : Arg
   pub force : Arg
-  pub made : IsMadeOf command (log ∷ master ∷ archive ∷ output ∷ log_output ∷ force ∷ [])
+  pub until : Arg
+  pub made : IsMadeOf command (log ∷ master ∷ archive ∷ output ∷ log_output ∷ force ∷ until ∷ [])
   pub log_is : rule_of log ≡ log_rule
   pub master_is : rule_of master ≡ master_rule
   pub archive_is : rule_of archive ≡ archive_rule
   pub output_is : rule_of output ≡ output_rule
   pub log_output_is : rule_of log_output ≡ log_output_rule
   pub force_is : rule_of force ≡ force_rule
+  pub until_is : rule_of until ≡ until_rule
   pub log_required : TakesValue log
   pub master_required : TakesValue master
+  pub until_parsed : until.value_parser ≡ Some lsn_parser
 
--- a log is required, and then archives and a master record may be named, and a flag
+-- a log is required, and then archives and a master record may be named, a flag and an LSN
 pub record AsksForLog (command : Parser) : Type 0 where
   pub log : Arg
   pub archive : Arg
   pub master : Arg
   pub all : Arg
-  pub made : IsMadeOf command (log ∷ archive ∷ master ∷ all ∷ [])
+  pub until : Arg
+  pub made : IsMadeOf command (log ∷ archive ∷ master ∷ all ∷ until ∷ [])
   pub log_is : rule_of log ≡ log_rule
   pub archive_is : rule_of archive ≡ archive_rule
   pub master_is : rule_of master ≡ audited_master_rule
   pub all_is : rule_of all ≡ all_rule
+  pub until_is : rule_of until ≡ until_rule
   pub log_required : TakesValue log
+  pub until_parsed : until.value_parser ≡ Some lsn_parser
 
--- a file is required, and then numbers and a flag may be told
+-- a file is required, and then numbers and two flags may be told
 pub record AsksForView (command : Parser) : Type 0 where
   pub file : Arg
   pub from : Arg
@@ -99,16 +106,18 @@ pub record AsksForView (command : Parser) : Type 0 where
   pub txn : Arg
   pub page : Arg
   pub json : Arg
-  pub made : IsMadeOf command (file ∷ from ∷ to ∷ txn ∷ page ∷ json ∷ [])
+  pub commits : Arg
+  pub made : IsMadeOf command (file ∷ from ∷ to ∷ txn ∷ page ∷ json ∷ commits ∷ [])
   pub file_is : rule_of file ≡ file_rule
   pub from_is : rule_of from ≡ from_rule
   pub to_is : rule_of to ≡ to_rule
   pub txn_is : rule_of txn ≡ txn_rule
   pub page_is : rule_of page ≡ page_rule
   pub json_is : rule_of json ≡ json_rule
+  pub commits_is : rule_of commits ≡ commits_rule
   pub required : TakesValue file
-  pub from_parsed : from.value_parser ≡ Some (Signed (pos 0) (pos 67108928))
-  pub to_parsed : to.value_parser ≡ Some (Signed (pos 0) (pos 67108928))
+  pub from_parsed : from.value_parser ≡ Some lsn_parser
+  pub to_parsed : to.value_parser ≡ Some lsn_parser
   pub txn_parsed : txn.value_parser ≡ Some (Signed (pos 1) (pos 4294967295))
   pub page_parsed : page.value_parser ≡ Some (Signed (pos 0) (pos 65535))
 
@@ -152,14 +161,16 @@ pub record AsksForTwoFolders (command : Parser) : Type 0 where
   pub old_required : TakesValue old
   pub renewed_required : TakesValue renewed
 
--- an output is required, and then a flag may be told
+-- an output may be named, and a flag and an LSN may be told
 pub record AsksForOutput (command : Parser) : Type 0 where
   pub output : Arg
   pub force : Arg
-  pub made : IsMadeOf command (output ∷ force ∷ [])
-  pub output_is : rule_of output ≡ record output_rule { required = true }
+  pub until : Arg
+  pub made : IsMadeOf command (output ∷ force ∷ until ∷ [])
+  pub output_is : rule_of output ≡ output_rule
   pub force_is : rule_of force ≡ force_rule
-  pub output_required : TakesValue output
+  pub until_is : rule_of until ≡ until_rule
+  pub until_parsed : until.value_parser ≡ Some lsn_parser
 
 -- what was found has a number of this name in these bounds, and clap let it through
 abbrev pub PassesIn : ℕ → ℕ → Found → Text → Type 0

@@ -46,14 +46,31 @@ force_rule = record (new_rule (codes "with_force")) {
   action = Some SetTrue;
 }
 
--- `redo -o FILE [--force]`
+-- a number within bounds, which may be left out
+abbrev pub number_rule : Text → Text → ℕ → ℕ → Rule
+number_rule id name low high = record (new_rule id) {
+  long = Some name;
+  action = Some Set;
+  value_names = 1;
+  parser = Some (Signed (pos low) (pos high));
+}
+
+-- the LSN up to whose record a log counts
+abbrev pub until_rule : Rule
+until_rule = number_rule (codes "until_lsn") (codes "until") 0 67108928
+
+-- `redo [-o FILE] [--force] [--until LSN]`
 abbrev pub redo_into_app : App
 redo_into_app = with_rule
-    (with_rule (new_app (codes "redo")) (record output_rule { required = true })) force_rule
+    (with_rule (with_rule (new_app (codes "redo")) output_rule) force_rule) until_rule
 
 -- a number from 1 to 65,536
 abbrev pub count_parser : ValueParser
 count_parser = Signed (pos 1) (pos 65536)
+
+-- the number of an LSN
+abbrev pub lsn_parser : ValueParser
+lsn_parser = Signed (pos 0) (pos 67108928)
 
 abbrev pub pages_rule : Rule
 pages_rule = record (new_rule (codes "pages")) {
@@ -120,13 +137,13 @@ log_output_rule = record (new_rule (codes "log_into")) {
   value_names = 1;
 }
 
--- `restore [-o FILE] [--log-out FILE] [--force] LOG MASTER [ARCHIVE]...`
+-- `restore [-o FILE] [--log-out FILE] [--force] [--until LSN] LOG MASTER [ARCHIVE]...`
 abbrev pub restore_app : App
-restore_app = with_rule (with_rule
+restore_app = with_rule (with_rule (with_rule
     (with_rule (with_rule (with_rule (with_rule (new_app (codes "restore")) log_rule) master_rule)
     archive_rule)
     output_rule)
-    log_output_rule) force_rule
+    log_output_rule) force_rule) until_rule
 
 abbrev pub audited_master_rule : Rule
 audited_master_rule = record (new_rule (codes "master")) {
@@ -141,11 +158,11 @@ all_rule = record (new_rule (codes "every")) {
   action = Some SetTrue;
 }
 
--- `audit [--all] [--master FILE] LOG [ARCHIVE]...`
+-- `audit [--all] [--master FILE] [--until LSN] LOG [ARCHIVE]...`
 abbrev pub audit_app : App
-audit_app = with_rule
+audit_app = with_rule (with_rule
     (with_rule (with_rule (with_rule (new_app (codes "audit")) log_rule) archive_rule)
-    audited_master_rule) all_rule
+    audited_master_rule) all_rule) until_rule
 
 abbrev pub folder_rule : Rule
 folder_rule = record (new_rule (codes "dir")) {
@@ -185,15 +202,6 @@ file_rule = record (new_rule (codes "of")) {
   required = true;
 }
 
--- a number within bounds, which may be left out
-abbrev pub number_rule : Text → Text → ℕ → ℕ → Rule
-number_rule id name low high = record (new_rule id) {
-  long = Some name;
-  action = Some Set;
-  value_names = 1;
-  parser = Some (Signed (pos low) (pos high));
-}
-
 -- the least LSN and the greatest one that are shown: none is past the end of the longest log
 abbrev pub from_rule : Rule
 from_rule = number_rule (codes "low") (codes "from") 0 67108928
@@ -215,11 +223,18 @@ json_rule = record (new_rule (codes "as_json")) {
   action = Some SetTrue;
 }
 
--- `show FILE [--from LSN] [--to LSN] [--txn N] [--page P] [--json]`
+-- the commits of a log alone are shown
+abbrev pub commits_rule : Rule
+commits_rule = record (new_rule (codes "finished")) {
+  long = Some (codes "commits");
+  action = Some SetTrue;
+}
+
+-- `show FILE [--from LSN] [--to LSN] [--txn N] [--page P] [--json] [--commits]`
 abbrev pub show_app : App
-show_app = with_rule (with_rule (with_rule
+show_app = with_rule (with_rule (with_rule (with_rule
     (with_rule (with_rule (with_rule (new_app (codes "show")) file_rule) from_rule) to_rule)
-    txn_rule) page_rule) json_rule
+    txn_rule) page_rule) json_rule) commits_rule
 
 -- `list FOLDER [--json]`
 abbrev pub list_app : App
@@ -320,9 +335,11 @@ AsksForVersion name = (name ≡ codes "--version") ⊎ (name ≡ codes "-V")
 -- the words give this command, with the values that clap matches after its name
 abbrev pub Gives : List Text → Command → Type 0
 Gives words Redo = IsTakenBy words redo_app
-Gives words (RedoInto output force) = let rows = matches_of redo_into_app words in
-    IsTakenBy words redo_into_app × (first_of (codes "into") rows ≡ Some output.now)
+Gives words (RedoInto output force until) = let rows = matches_of redo_into_app words in
+    IsTakenBy words redo_into_app
+    × (option_map (λ name. name.now) output ≡ first_of (codes "into") rows)
     × IsFlag (one_of (codes "with_force") rows) force
+    × IsTold (one_of (codes "until_lsn") rows) until
 Gives words (Run pages frames save strict force) = let rows = matches_of run_app words in
     IsTakenBy words run_app × IsNumberRead (one_of (codes "pages") rows) pages
     × IsFramesRead (one_of (codes "frames") rows) frames
@@ -335,7 +352,7 @@ Gives words (Open folder pages frames salvage strict) = let rows = matches_of op
     × IsFramesRead (one_of (codes "frames") rows) frames
     × IsFlag (one_of (codes "is_salvage") rows) salvage
     × IsFlag (one_of (codes "is_strict") rows) strict
-Gives words (Restore log master archives output log_output force) =
+Gives words (Restore log master archives output log_output force until) =
     let rows = matches_of restore_app words in
     IsTakenBy words restore_app × (first_of (codes "log") rows ≡ Some log.now)
     × (first_of (codes "master") rows ≡ Some master.now)
@@ -343,16 +360,19 @@ Gives words (Restore log master archives output log_output force) =
     × (option_map (λ name. name.now) output ≡ first_of (codes "into") rows)
     × (option_map (λ name. name.now) log_output ≡ first_of (codes "log_into") rows)
     × IsFlag (one_of (codes "with_force") rows) force
-Gives words (Audit log archives master all) = let rows = matches_of audit_app words in
+    × IsTold (one_of (codes "until_lsn") rows) until
+Gives words (Audit log archives master all until) = let rows = matches_of audit_app words in
     IsTakenBy words audit_app × (first_of (codes "log") rows ≡ Some log.now)
     × (map (λ name. name.now) archives.items ≡ unwrap_or (all_of (codes "archive") rows) [])
     × (option_map (λ name. name.now) master ≡ first_of (codes "master") rows)
     × IsFlag (one_of (codes "every") rows) all
-Gives words (Show file from to txn page json) = let rows = matches_of show_app words in
+    × IsTold (one_of (codes "until_lsn") rows) until
+Gives words (Show file from to txn page json commits) = let rows = matches_of show_app words in
     IsTakenBy words show_app × (first_of (codes "of") rows ≡ Some file.now)
     × IsTold (one_of (codes "low") rows) from × IsTold (one_of (codes "high") rows) to
     × IsTold (one_of (codes "owner") rows) txn × IsTold (one_of (codes "number") rows) page
     × IsFlag (one_of (codes "as_json") rows) json
+    × IsFlag (one_of (codes "finished") rows) commits
 Gives words (ListFolder folder json) = let rows = matches_of list_app words in
     IsTakenBy words list_app × (first_of (codes "dir") rows ≡ Some folder.now)
     × IsFlag (one_of (codes "as_json") rows) json
@@ -371,14 +391,14 @@ Gives words Version = IsSomeAnd (slice_get words 0) AsksForVersion
 -- from 1 on
 abbrev pub HasCounts : Command → Type 0
 HasCounts Redo = Unit {0}
-HasCounts (RedoInto output force) = Unit {0}
+HasCounts (RedoInto output force until) = Unit {0}
 HasCounts (Run pages frames save strict force) =
     (1 ≤ pages) × (pages ≤ 65536) × (1 ≤ frames) × (frames ≤ 65536)
 HasCounts (Open folder pages frames salvage strict) =
     IfSome pages (λ n. (1 ≤ n) × (n ≤ 65536)) × (1 ≤ frames) × (frames ≤ 65536)
-HasCounts (Restore log master archives output log_output force) = Unit {0}
-HasCounts (Audit log archives master all) = Unit {0}
-HasCounts (Show file from to txn page json) = Unit {0}
+HasCounts (Restore log master archives output log_output force until) = Unit {0}
+HasCounts (Audit log archives master all until) = Unit {0}
+HasCounts (Show file from to txn page json commits) = Unit {0}
 HasCounts (ListFolder folder json) = Unit {0}
 HasCounts (Backup folder on full into) = IfSome on (λ n. (1 ≤ n) × (n < 2 ^ 32))
 HasCounts (Verify folder) = Unit {0}

@@ -4,8 +4,9 @@ ghost use Rattle.clap.specs.Built.{FitsChain, TakesValue};
 ghost use Rattle.clap.specs.Words.{app_of, fault_of, first_value, found_of, matches_of, rows_of};
 ghost use Rattle.clap.specs.Words.{rule_of};
 ghost use Rattle.command_words.specs.Arguments.{AsksForFiles, AsksForLog, AsksForOutput};
-ghost use Rattle.command_words.specs.Arguments.{AsksForPages, PassesFrames, PassesPages};
-ghost use Rattle.command_words.specs.Command.{ExplainsRead, Names};
+ghost use Rattle.command_words.specs.Arguments.{AsksForPages, PassesFrames, PassesNumber};
+ghost use Rattle.command_words.specs.Arguments.{PassesPages};
+ghost use Rattle.command_words.specs.Command.{ExplainsRead, Names, lsn_parser, until_rule};
 ghost use Rattle.command_words.specs.Command.{all_rule, archive_rule, audit_app};
 ghost use Rattle.command_words.specs.Command.{audited_master_rule, count_parser, force_rule};
 ghost use Rattle.command_words.specs.Command.{frames_rule};
@@ -35,7 +36,7 @@ pub(crate) fn redo_matches<'a, S: AsStr>(
     Ok(redo_command(alloc)?.try_get_matches_from(words)?)
 }
 
-/// What `clap` makes of the words of `redo` with an output.
+/// What `clap` makes of the words of `redo` with options.
 pub(crate) fn redo_into_matches<'a, S: AsStr>(
     alloc: Global,
     words: &'a [S],
@@ -44,7 +45,7 @@ pub(crate) fn redo_into_matches<'a, S: AsStr>(
     ensures taken { IfOk result (λ _. fault_of redo_into_app (map S.text words.now) ≡ []) }
     ensures rows { IfOk result (λ it.
         rows_of (found_of it) ≡ matches_of redo_into_app (map S.text words.now)) }
-    ensures output { IfOk result (λ it. is_some (first_value (found_of it) (codes "into")) ≡ true) }
+    ensures until { IfOk result (λ it. PassesNumber (found_of it) (codes "until_lsn")) }
     ensures only { IfErr result (λ fault.
         fault_of redo_into_app (map S.text words.now) ≡ [] → fault ≡ OutOfMemory) }
     ensures explained { IfErr result (ExplainsRead (map S.text words.now)) }
@@ -82,6 +83,7 @@ pub(crate) fn restore_matches<'a, S: AsStr>(
     ensures log { IfOk result (λ it. is_some (first_value (found_of it) (codes "log")) ≡ true) }
     ensures master { IfOk result (λ it.
         is_some (first_value (found_of it) (codes "master")) ≡ true) }
+    ensures until { IfOk result (λ it. PassesNumber (found_of it) (codes "until_lsn")) }
     ensures only { IfErr result (λ fault.
         fault_of restore_app (map S.text words.now) ≡ [] → fault ≡ OutOfMemory) }
     ensures explained { IfErr result (ExplainsRead (map S.text words.now)) }
@@ -99,6 +101,7 @@ pub(crate) fn audit_matches<'a, S: AsStr>(
     ensures rows { IfOk result (λ it.
         rows_of (found_of it) ≡ matches_of audit_app (map S.text words.now)) }
     ensures log { IfOk result (λ it. is_some (first_value (found_of it) (codes "log")) ≡ true) }
+    ensures until { IfOk result (λ it. PassesNumber (found_of it) (codes "until_lsn")) }
     ensures only { IfErr result (λ fault.
         fault_of audit_app (map S.text words.now) ≡ [] → fault ≡ OutOfMemory) }
     ensures explained { IfErr result (ExplainsRead (map S.text words.now)) }
@@ -109,13 +112,13 @@ pub(crate) fn audit_matches<'a, S: AsStr>(
 // The usage of each shows the program's name before the command's, and what it reads and writes.
 
 const REDO_USAGE: &str =
-    "imgcopy redo < LOG > VOLUME\n       imgcopy redo -o <FILE> [--force] < LOG";
+    "imgcopy redo [--until <LSN>] < LOG > VOLUME\n       imgcopy redo -o <FILE> [--force] [--until <LSN>] < LOG";
 
 const RUN_USAGE: &str = "imgcopy run --pages <N> [OPTIONS] < SCRIPT";
 
 const RESTORE_USAGE: &str =
-    "imgcopy restore [--log-out <FILE> [--force]] <LOG> <MASTER> <ARCHIVE>... > VOLUME\n       \
-    imgcopy restore -o <FILE> [--log-out <FILE>] [--force] <LOG> <MASTER> <ARCHIVE>...";
+    "imgcopy restore [--log-out <FILE> [--force]] [--until <LSN>] <LOG> <MASTER> <ARCHIVE>... > VOLUME\n       \
+    imgcopy restore -o <FILE> [--log-out <FILE>] [--force] [--until <LSN>] <LOG> <MASTER> <ARCHIVE>...";
 
 const AUDIT_USAGE: &str = "imgcopy audit [OPTIONS] <LOG> <ARCHIVE>...";
 
@@ -135,8 +138,9 @@ fn redo_into_command<'a>(alloc: Global) -> Result<clap::Command<'a>, AllocError>
         .about("Write the volume that the log on standard input makes")
         .override_usage(REDO_USAGE)
         .bin_name("imgcopy redo")?
-        .arg(required_output_arg(alloc))?
-        .arg(force_arg(alloc))
+        .arg(output_arg(alloc))?
+        .arg(force_arg(alloc))?
+        .arg(until_arg(alloc))
 }
 
 fn run_command<'a>(alloc: Global) -> Result<clap::Command<'a>, AllocError>
@@ -167,7 +171,8 @@ fn restore_command<'a>(alloc: Global) -> Result<clap::Command<'a>, AllocError>
         .arg(archive_arg(alloc))?
         .arg(output_arg(alloc))?
         .arg(log_output_arg(alloc))?
-        .arg(force_arg(alloc))
+        .arg(force_arg(alloc))?
+        .arg(until_arg(alloc))
 }
 
 fn audit_command<'a>(alloc: Global) -> Result<clap::Command<'a>, AllocError>
@@ -181,7 +186,8 @@ fn audit_command<'a>(alloc: Global) -> Result<clap::Command<'a>, AllocError>
         .arg(log_arg(alloc))?
         .arg(archive_arg(alloc))?
         .arg(audited_master_arg(alloc))?
-        .arg(all_arg(alloc))
+        .arg(all_arg(alloc))?
+        .arg(until_arg(alloc))
 }
 
 fn pages_arg<'a>(alloc: Global) -> Arg<'a>
@@ -266,12 +272,17 @@ fn log_output_arg<'a>(alloc: Global) -> Arg<'a>
         .action(ArgAction::Set)
 }
 
-fn required_output_arg<'a>(alloc: Global) -> Arg<'a>
-    ensures rule { rule_of result ≡ record output_rule { required = true } }
+fn until_arg<'a>(alloc: Global) -> Arg<'a>
+    ensures rule { rule_of result ≡ until_rule }
     ensures fits { FitsChain result }
-    ensures value { TakesValue result }
+    ensures parser { result.value_parser ≡ Some lsn_parser }
 {
-    output_arg(alloc).required(true)
+    Arg::new(alloc, "until_lsn")
+        .long("until")
+        .value_name("LSN")
+        .help("Let the log count up to the record at this LSN, that one included")
+        .action(ArgAction::Set)
+        .value_parser(clap::value_parser!(u32).range(0..=67_108_928))
 }
 
 fn all_arg<'a>(alloc: Global) -> Arg<'a>

@@ -20,7 +20,7 @@ use crate::arguments::{
 };
 use crate::folder_words::{backup_of, renew_of, verify_of};
 use crate::open_words::open_of;
-use crate::view_words::{list_of, show_of};
+use crate::view_words::{list_of, number_in, show_of};
 use clap::ArgMatches;
 use clap::error::ErrorKind;
 use page_core::FaultName;
@@ -34,11 +34,13 @@ use thiserror::Error;
 pub enum Command<'a> {
     /// To redo the log on standard input.
     Redo,
-    /// The same, and to put the volume into this file. With force it replaces a file that is kept
-    /// else, as in the other commands that write files.
+    /// The same, of the log up to the record at an LSN, if one is told. The volume goes into this
+    /// file, if one is named. With force it replaces a file that is kept else, as in the other
+    /// commands that write files. An LSN is at most 67,108,928, here and below.
     RedoInto {
-        output: &'a str,
+        output: Option<&'a str>,
         force: bool,
+        until: Option<u32>,
     },
     /// To play the script on standard input on a volume of so many pages, with memory for so many
     /// of them at a time, each 1 to 65,536. The log, the master record and the copies go into the
@@ -62,7 +64,7 @@ pub enum Command<'a> {
     },
     /// To restore a volume of these files: the log, its master record, and the archives of a chain
     /// of copies, the full one first. The volume goes into the output, if one is named, and so does
-    /// the log after undo.
+    /// the log after undo. The log counts up to the record at an LSN, if one is told.
     Restore {
         log: &'a str,
         master: &'a str,
@@ -70,20 +72,22 @@ pub enum Command<'a> {
         output: Option<&'a str>,
         log_output: Option<&'a str>,
         force: bool,
+        until: Option<u32>,
     },
     /// To audit a chain of copies against a log: the log, and the archives of the chain, the full
     /// one first, and then the master record, if one is named. All unsound pages are told, or the
-    /// first one.
+    /// first one. The log counts up to the record at an LSN, if one is told.
     Audit {
         log: &'a str,
         archives: Vec<&'a str>,
         master: Option<&'a str>,
         all: bool,
+        until: Option<u32>,
     },
     /// To print what a file has: a log, a master record, an archive or a volume. Of a log only the
     /// records from one LSN to another, those that name the transaction, and those that name the
-    /// page, where these are told; of an archive or a volume the page alone, where one is. An LSN
-    /// is at most 67,108,928, a transaction's number at least 1, a page's at most 65,535.
+    /// page, where these are told, or of these the commits alone; of an archive or a volume the page
+    /// alone, where one is. A transaction's number is at least 1, a page's at most 65,535.
     Show {
         file: &'a str,
         from: Option<u32>,
@@ -91,6 +95,7 @@ pub enum Command<'a> {
         txn: Option<u32>,
         page: Option<u32>,
         json: bool,
+        commits: bool,
     },
     /// To print which copies stand in this folder, and what restores of them would do.
     ListFolder {
@@ -285,7 +290,7 @@ fn nearest(alloc: Global, word: &str) -> Result<Option<&'static str>, AllocError
     Ok(best)
 }
 
-/// `redo` alone writes to standard output. What else follows it has to name an output.
+/// `redo` alone writes to standard output what the whole log makes. Else options follow it.
 fn redo_of<'a, S: AsStr>(alloc: Global, words: &'a [S]) -> Result<Command<'a>, UsageFault<'a>>
     requires { Names (map S.text words.now) redo_app }
     ensures ok { IfOk result (Gives (map S.text words.now)) }
@@ -327,9 +332,14 @@ fn redo_into_of<'a, S: AsStr>(alloc: Global, words: &'a [S]) -> Result<Command<'
     ensures explained { IfErr result (ExplainsRead (map S.text words.now)) }
 {
     let matches = redo_into_matches(alloc, words)?;
-    let output = value_in(&matches, "into");
+    let output = matches.get_str("into");
     let force = matches.get_flag("with_force");
-    Ok(Command::RedoInto { output, force })
+    let until = number_in(&matches, "until_lsn");
+    Ok(Command::RedoInto {
+        output,
+        force,
+        until,
+    })
 }
 
 fn redo_alone_of<'a, S: AsStr>(alloc: Global, words: &'a [S]) -> Result<Command<'a>, UsageFault<'a>>
@@ -403,6 +413,7 @@ fn restore_of<'a, S: AsStr>(alloc: Global, words: &'a [S]) -> Result<Command<'a>
     let output = matches.get_str("into");
     let log_output = matches.get_str("log_into");
     let force = matches.get_flag("with_force");
+    let until = number_in(&matches, "until_lsn");
     Ok(Command::Restore {
         log,
         master,
@@ -410,6 +421,7 @@ fn restore_of<'a, S: AsStr>(alloc: Global, words: &'a [S]) -> Result<Command<'a>
         output,
         log_output,
         force,
+        until,
     })
 }
 
@@ -427,11 +439,13 @@ fn audit_of<'a, S: AsStr>(alloc: Global, words: &'a [S]) -> Result<Command<'a>, 
     let archives = archives_in(alloc, &matches)?;
     let master = matches.get_str("master");
     let all = matches.get_flag("every");
+    let until = number_in(&matches, "until_lsn");
     Ok(Command::Audit {
         log,
         archives,
         master,
         all,
+        until,
     })
 }
 

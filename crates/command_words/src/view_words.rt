@@ -5,7 +5,7 @@ ghost use Rattle.clap.specs.Words.{app_of, fault_of, first_value, found_of, matc
 ghost use Rattle.clap.specs.Words.{rows_of, rule_of};
 ghost use Rattle.clap.specs.declared.builder.value_parser.ValueParser.TheVariants.{Signed};
 ghost use Rattle.command_words.specs.Arguments.{AsksForList, AsksForView, PassesNumber};
-ghost use Rattle.command_words.specs.Command.{ExplainsRead, Gives};
+ghost use Rattle.command_words.specs.Command.{ExplainsRead, Gives, commits_rule};
 ghost use Rattle.command_words.specs.Command.{HasCounts, IsTold, Names, file_rule};
 ghost use Rattle.command_words.specs.Command.{folder_rule, from_rule, json_rule, list_app};
 ghost use Rattle.command_words.specs.Command.{page_rule, show_app, to_rule, txn_rule};
@@ -42,6 +42,7 @@ pub(crate) fn show_of<'a, S: AsStr>(
     let txn = number_in(&matches, "owner");
     let page = number_in(&matches, "number");
     let json = matches.get_flag("as_json");
+    let commits = matches.get_flag("finished");
     Ok(Command::Show {
         file,
         from,
@@ -49,6 +50,7 @@ pub(crate) fn show_of<'a, S: AsStr>(
         txn,
         page,
         json,
+        commits,
     })
 }
 
@@ -123,7 +125,8 @@ fn show_command<'a>(alloc: Global) -> Result<clap::Command<'a>, AllocError>
         .arg(to_arg(alloc))?
         .arg(txn_arg(alloc))?
         .arg(page_arg(alloc))?
-        .arg(json_arg(alloc))
+        .arg(json_arg(alloc))?
+        .arg(commits_arg(alloc))
 }
 
 fn list_command<'a>(alloc: Global) -> Result<clap::Command<'a>, AllocError>
@@ -212,8 +215,18 @@ fn json_arg<'a>(alloc: Global) -> Arg<'a>
         .action(ArgAction::SetTrue)
 }
 
+fn commits_arg<'a>(alloc: Global) -> Arg<'a>
+    ensures rule { rule_of result ≡ commits_rule }
+    ensures fits { FitsChain result }
+{
+    Arg::new(alloc, "finished")
+        .long("commits")
+        .help("Print the commits of a log alone, one of which --until takes")
+        .action(ArgAction::SetTrue)
+}
+
 /// A number that was told, or none.
-fn number_in(matches: &ArgMatches<'_>, id: &str) -> Option<u32>
+pub(crate) fn number_in(matches: &ArgMatches<'_>, id: &str) -> Option<u32>
     requires { PassesNumber (found_of matches.now) id.now }
     ensures { IsTold (one_of id.now (rows_of (found_of matches.now))) result }
 {

@@ -1,5 +1,5 @@
 -- Which records are shown.
-use Rattle.std.specs.Prelude.{ℕ, ◌≡◌, ◌⊎◌, ◌≤◌, IfSome, None, Option}
+use Rattle.std.specs.Prelude.{ℕ, ◌≡◌, ◌⊎◌, ◌≤◌, true, IfSome, None, Option}
 use Rattle.log_records.specs.declared.dirty_page.DirtyPages.{DirtyPages}
 use Rattle.log_records.specs.declared.dirty_page.DirtyPages.TheVariants.{One, Three, Two}
 use Rattle.log_records.specs.declared.record.Record.{Record}
@@ -39,7 +39,12 @@ Names txn page (ChkptTxns lsn begin own state last undo_next) = Is txn own × (p
 Names txn page (EndChkpt lsn begin redo) = (txn ≡ None) × (page ≡ None)
 Names txn page (Extend lsn pages) = (txn ≡ None) × (page ≡ None)
 
+-- the record says that its transaction commits
+abbrev pub IsCommit : Record → Type 0
+IsCommit (Commit lsn own prev) = Unit {0}
+IsCommit other = ⊥
+
 -- the record is shown
 abbrev pub IsWanted : Wanted → Record → Type 0
-IsWanted wanted entry =
-    IsIn wanted.from wanted.to (own_lsn entry) × Names wanted.txn wanted.page entry
+IsWanted wanted entry = IsIn wanted.from wanted.to (own_lsn entry)
+    × Names wanted.txn wanted.page entry × (wanted.commits ≡ true → IsCommit entry)

@@ -1,20 +1,21 @@
 //! Which records and pages are shown.
 
 ghost use Rattle.std.specs.Prelude.{◌↔◌, IfSome, IsTrue};
-ghost use Rattle.file_view.specs.Wanted.{HasPage, Is, IsIn, IsWanted, Names};
+ghost use Rattle.file_view.specs.Wanted.{HasPage, Is, IsCommit, IsIn, IsWanted, Names};
 
 use log_records::{DirtyPages, Record};
 use page_core::{Lsn, PageNo, TxnNo};
 
 /// Which records of a log are shown: those from one LSN to another, both included, that name the
-/// transaction and the page, as far as these are told. Of an archive and of a volume the page alone
-/// is shown, where one is told.
+/// transaction and the page, as far as these are told; or of them the commits alone. Of an archive
+/// and of a volume the page alone is shown, where one is told.
 #[derive(Clone, Copy)]
 pub struct Wanted {
     pub from: Option<Lsn>,
     pub to: Option<Lsn>,
     pub txn: Option<TxnNo>,
     pub page: Option<PageNo>,
+    pub commits: bool,
 }
 
 impl Wanted {
@@ -22,7 +23,9 @@ impl Wanted {
     pub fn takes(&self, entry: &Record) -> bool
         ensures { IsTrue result ↔ IsWanted self.now entry.now }
     {
-        is_in(self.from, self.to, entry.lsn()) && names(self.txn, self.page, entry)
+        is_in(self.from, self.to, entry.lsn())
+            && names(self.txn, self.page, entry)
+            && (!self.commits || is_commit(entry))
     }
 
     /// Whether a page of an archive or of a volume is shown.
@@ -32,6 +35,12 @@ impl Wanted {
             None => true,
         }
     }
+}
+
+fn is_commit(entry: &Record) -> bool
+    ensures { IsTrue result ↔ IsCommit entry.now }
+{
+    matches!(entry, Record::Commit { .. })
 }
 
 fn is_in(from: Option<Lsn>, to: Option<Lsn>, lsn: Lsn) -> bool

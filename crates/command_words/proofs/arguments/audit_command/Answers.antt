@@ -1,10 +1,11 @@
-use Rattle.std.proofs.Common.{ap, codes, ◌∙◌}
+use Rattle.std.proofs.Common.{[], ap, codes, refl, ◌∙◌, ◌∷◌}
 use Rattle.std.proofs.lemmas.Result.{IfOk-weaker}
 use Rattle.clap.specs.declared.builder.command.Command.{Command as Parser}
 use Rattle.clap.specs.declared.builder.command.Command.TheOpen.{Command-F}
 use Rattle.clap.specs.Simple.{app_of_fields, new_app, with_rule}
-use Rattle.command_words.specs.Command.{all_rule, archive_rule, audited_master_rule, log_rule}
-use Rattle.command_words.proofs.RequiredLemmas.{app_with, asks_for_log}
+use Rattle.command_words.specs.Command.{all_rule, archive_rule, audited_master_rule, log_rule, until_rule}
+use Rattle.command_words.proofs.ChainLemmas.{made_of, none_fit, one_more_fits}
+use Rattle.command_words.proofs.RequiredLemmas.{app_with}
 use Rattle.command_words.proofs.arguments.audit_command.Goals as goal
 
 pub returns-clause-made : goal.returns-clause-made
@@ -15,30 +16,51 @@ returns-clause-made c =
     let negates = λ (f : Command-F Parser). f.subcommand_negates_reqs in
     let named = c.in_ok-bin_name.ensures.0 in
     let shown = c.override_usage.ensures in
-    IfOk-weaker c.arg-4.result _ _ (λ command added. asks_for_log
-    c.in_ok-bin_name.field-0 c.in_ok-arg.field-0 c.in_ok-arg-2.field-0 c.in_ok-arg-3.field-0 command
-    c.log_arg.result c.archive_arg.result c.audited_master_arg.result c.all_arg.result
-    (ap args named ∙ (ap args shown ∙ (ap args c.about.ensures ∙ c.new.ensures.empty.0)))
-    (ap groups named ∙ (ap groups shown ∙ (ap groups c.about.ensures ∙ c.new.ensures.empty.1)))
-    (ap globals named ∙ (ap globals shown ∙ (ap globals c.about.ensures ∙ c.new.ensures.local)))
-    (ap negates named ∙ (ap negates shown ∙ (ap negates c.about.ensures ∙ c.new.ensures.negates)))
-    c.log_arg.ensures.fits c.archive_arg.ensures.fits c.audited_master_arg.ensures.fits c.all_arg.ensures.fits
-    c.log_arg.ensures.rule c.archive_arg.ensures.rule c.audited_master_arg.ensures.rule c.all_arg.ensures.rule
-    c.log_arg.ensures.value
-    c.in_ok-arg.ensures c.in_ok-arg-2.ensures c.in_ok-arg-3.ensures added) c.arg-4.ensures
+    IfOk-weaker c.arg-5.result _ _ (λ command added. record {
+      log = c.log_arg.result;
+      archive = c.archive_arg.result;
+      master = c.audited_master_arg.result;
+      all = c.all_arg.result;
+      until = c.until_arg.result;
+      made = made_of c.in_ok-bin_name.field-0 command
+          (c.log_arg.result ∷ c.archive_arg.result ∷ c.audited_master_arg.result ∷ c.all_arg.result ∷ c.until_arg.result ∷ [])
+          (ap args named ∙ (ap args shown ∙ (ap args c.about.ensures ∙ c.new.ensures.empty.0)))
+          (ap groups named ∙ (ap groups shown ∙ (ap groups c.about.ensures ∙ c.new.ensures.empty.1)))
+          (ap globals named ∙ (ap globals shown ∙ (ap globals c.about.ensures ∙ c.new.ensures.local)))
+          (ap negates named ∙ (ap negates shown ∙ (ap negates c.about.ensures ∙ c.new.ensures.negates)))
+          (c.in_ok-arg.field-0, c.in_ok-arg.ensures, (c.in_ok-arg-2.field-0, c.in_ok-arg-2.ensures, (c.in_ok-arg-3.field-0, c.in_ok-arg-3.ensures, (c.in_ok-arg-4.field-0, c.in_ok-arg-4.ensures, (command, added, refl)))))
+          (one_more_fits c.log_arg.result (c.archive_arg.result ∷ c.audited_master_arg.result ∷ c.all_arg.result ∷ c.until_arg.result ∷ []) c.log_arg.ensures.fits
+          (one_more_fits c.archive_arg.result (c.audited_master_arg.result ∷ c.all_arg.result ∷ c.until_arg.result ∷ []) c.archive_arg.ensures.fits
+          (one_more_fits c.audited_master_arg.result (c.all_arg.result ∷ c.until_arg.result ∷ []) c.audited_master_arg.ensures.fits
+          (one_more_fits c.all_arg.result (c.until_arg.result ∷ []) c.all_arg.ensures.fits
+          (one_more_fits c.until_arg.result [] c.until_arg.ensures.fits
+          none_fit)))));
+      log_is = c.log_arg.ensures.rule;
+      archive_is = c.archive_arg.ensures.rule;
+      master_is = c.audited_master_arg.ensures.rule;
+      all_is = c.all_arg.ensures.rule;
+      until_is = c.until_arg.ensures.rule;
+      log_required = c.log_arg.ensures.value;
+      until_parsed = c.until_arg.ensures.parser;
+    }) c.arg-5.ensures
 
 pub returns-clause-app : goal.returns-clause-app
 returns-clause-app c =
     let named = c.in_ok-bin_name.ensures.0 in
     let shown = c.override_usage.ensures in
     let start = ap app_of_fields named ∙ (ap app_of_fields shown ∙ (ap app_of_fields c.about.ensures ∙ c.new.ensures.app)) in
-    let app = new_app (codes "audit") in
-    let with_1 = app_with c.in_ok-bin_name.field-0 c.in_ok-arg.field-0 c.log_arg.result app log_rule
+    let app_0 = new_app (codes "audit") in
+    let with_1 = app_with c.in_ok-bin_name.field-0 c.in_ok-arg.field-0 c.log_arg.result app_0 log_rule
     c.in_ok-arg.ensures c.log_arg.ensures.fits.1 start c.log_arg.ensures.rule in
-    let with_2 = app_with c.in_ok-arg.field-0 c.in_ok-arg-2.field-0 c.archive_arg.result (with_rule app log_rule) archive_rule
+    let app_1 = with_rule app_0 log_rule in
+    let with_2 = app_with c.in_ok-arg.field-0 c.in_ok-arg-2.field-0 c.archive_arg.result app_1 archive_rule
     c.in_ok-arg-2.ensures c.archive_arg.ensures.fits.1 with_1 c.archive_arg.ensures.rule in
-    let with_3 = app_with c.in_ok-arg-2.field-0 c.in_ok-arg-3.field-0 c.audited_master_arg.result (with_rule (with_rule app log_rule) archive_rule) audited_master_rule
+    let app_2 = with_rule app_1 archive_rule in
+    let with_3 = app_with c.in_ok-arg-2.field-0 c.in_ok-arg-3.field-0 c.audited_master_arg.result app_2 audited_master_rule
     c.in_ok-arg-3.ensures c.audited_master_arg.ensures.fits.1 with_2 c.audited_master_arg.ensures.rule in
-    IfOk-weaker c.arg-4.result _ _ (λ command added. app_with c.in_ok-arg-3.field-0 command c.all_arg.result
-    (with_rule (with_rule (with_rule app log_rule) archive_rule) audited_master_rule) all_rule added c.all_arg.ensures.fits.1 with_3
-    c.all_arg.ensures.rule) c.arg-4.ensures
+    let app_3 = with_rule app_2 audited_master_rule in
+    let with_4 = app_with c.in_ok-arg-3.field-0 c.in_ok-arg-4.field-0 c.all_arg.result app_3 all_rule
+    c.in_ok-arg-4.ensures c.all_arg.ensures.fits.1 with_3 c.all_arg.ensures.rule in
+    let app_4 = with_rule app_3 all_rule in
+    IfOk-weaker c.arg-5.result _ _ (λ command added. app_with c.in_ok-arg-4.field-0 command c.until_arg.result app_4
+    until_rule added c.until_arg.ensures.fits.1 with_4 c.until_arg.ensures.rule) c.arg-5.ensures

@@ -1,7 +1,7 @@
 use Rattle.std.proofs.Common.{lit<, refl}
 use Rattle.command_words.specs.Command.{audit_app}
 use Rattle.command_words.proofs.ClapLemmas.{for_memory, matched, passed_up, taken}
-use Rattle.command_words.proofs.RequiredLemmas.{audited_log_given}
+use Rattle.command_words.proofs.AuditLemmas.{audited_log_given, audited_until_passed}
 use Rattle.command_words.proofs.arguments.audit_matches.Goals as goal
 
 pub returns-in_err-try_get_matches_from-clause-only :
@@ -26,4 +26,8 @@ returns-clause-taken g c =
 
 pub returns-clause-log : goal.returns-clause-log
 returns-clause-log g c = audited_log_given c.in_ok-audit_command.field-0 c.in_ok-try_get_matches_from.field-0
+    c.in_ok-audit_command.ensures.made c.in_ok-try_get_matches_from.ensures.parsed
+
+pub returns-clause-until : goal.returns-clause-until
+returns-clause-until g c = audited_until_passed c.in_ok-audit_command.field-0 c.in_ok-try_get_matches_from.field-0
     c.in_ok-audit_command.ensures.made c.in_ok-try_get_matches_from.ensures.parsed

@@ -1,7 +1,7 @@
 use Rattle.std.proofs.Common.{lit<, refl}
 use Rattle.command_words.specs.Command.{redo_into_app}
 use Rattle.command_words.proofs.ClapLemmas.{for_memory, matched, passed_up, taken}
-use Rattle.command_words.proofs.RunLemmas.{output_given}
+use Rattle.command_words.proofs.RunLemmas.{redone_until_passed}
 use Rattle.command_words.proofs.arguments.redo_into_matches.Goals as goal
 
 pub returns-in_err-try_get_matches_from-clause-only :
@@ -24,6 +24,6 @@ pub returns-clause-taken : goal.returns-clause-taken
 returns-clause-taken g c =
     taken _ _ redo_into_app c.in_ok-redo_into_command.ensures.app refl c.in_ok-try_get_matches_from.ensures.kinds
 
-pub returns-clause-output : goal.returns-clause-output
-returns-clause-output g c = output_given c.in_ok-redo_into_command.field-0 c.in_ok-try_get_matches_from.field-0
+pub returns-clause-until : goal.returns-clause-until
+returns-clause-until g c = redone_until_passed c.in_ok-redo_into_command.field-0 c.in_ok-try_get_matches_from.field-0
     c.in_ok-redo_into_command.ensures.made c.in_ok-try_get_matches_from.ensures.parsed

@@ -1,7 +1,7 @@
 use Rattle.std.proofs.Common.{lit<, refl}
 use Rattle.command_words.specs.Command.{restore_app}
 use Rattle.command_words.proofs.ClapLemmas.{for_memory, matched, passed_up, taken}
-use Rattle.command_words.proofs.RestoreLemmas.{log_given, master_given}
+use Rattle.command_words.proofs.RestoreLemmas.{log_given, master_given, restored_until_passed}
 use Rattle.command_words.proofs.arguments.restore_matches.Goals as goal
 
 pub returns-in_err-try_get_matches_from-clause-only :
@@ -30,4 +30,8 @@ returns-clause-log g c = log_given c.in_ok-restore_command.field-0 c.in_ok-try_g
 
 pub returns-clause-master : goal.returns-clause-master
 returns-clause-master g c = master_given c.in_ok-restore_command.field-0 c.in_ok-try_get_matches_from.field-0
+    c.in_ok-restore_command.ensures.made c.in_ok-try_get_matches_from.ensures.parsed
+
+pub returns-clause-until : goal.returns-clause-until
+returns-clause-until g c = restored_until_passed c.in_ok-restore_command.field-0 c.in_ok-try_get_matches_from.field-0
     c.in_ok-restore_command.ensures.made c.in_ok-try_get_matches_from.ensures.parsed

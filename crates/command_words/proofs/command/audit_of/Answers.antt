@@ -2,7 +2,7 @@ use Rattle.std.proofs.Common.{List, Option, [], ap, codes, subst, sym, ◌∙◌
 use Rattle.std.specs.Prelude.{unwrap_or}
 use Rattle.clap.specs.Words.{Text, all_of, found_of, first_of, one_of}
 use Rattle.clap.proofs.WalkLemmas.{first_value-rows, one_text-rows, raw_values-rows}
-use Rattle.command_words.specs.Command.{IsFlag}
+use Rattle.command_words.specs.Command.{IsFlag, IsTold}
 use Rattle.command_words.proofs.command.audit_of.Goals as goal
 
 pub returns-clause-ok : goal.returns-clause-ok
@@ -18,4 +18,5 @@ returns-clause-ok g c =
       subst (λ o. IsFlag o c.get_flag-all.result)
           (one_text-rows found (codes "every") ∙ ap (one_of (codes "every")) rows)
           (c.get_flag-all.ensures.none, c.get_flag-all.ensures.value, c.get_flag-all.ensures.other),
+      subst (λ found. IsTold (one_of (codes "until_lsn") found) c.number_in-until.result) rows c.number_in-until.ensures,
     )

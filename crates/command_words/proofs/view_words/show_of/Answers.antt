@@ -18,4 +18,7 @@ returns-clause-ok g c =
       subst (λ o. IsFlag o c.get_flag-json.result)
           (one_text-rows found (codes "as_json") ∙ ap (one_of (codes "as_json")) rows)
           (c.get_flag-json.ensures.none, c.get_flag-json.ensures.value, c.get_flag-json.ensures.other),
+      subst (λ o. IsFlag o c.get_flag-commits.result)
+          (one_text-rows found (codes "finished") ∙ ap (one_of (codes "finished")) rows)
+          (c.get_flag-commits.ensures.none, c.get_flag-commits.ensures.value, c.get_flag-commits.ensures.other),
     )

@@ -1,0 +1,49 @@
+-- The arguments of `audit`: what `clap` requires of them was given, and what it lets through.
+use Rattle.std.proofs.Common.{◌≡◌, List, [], ◌∷◌, length, true, ap, subst, arith, codes, is_some, lit<}
+use Rattle.clap.specs.Built.{HasDistinctIds, IsParsedFrom}
+use Rattle.clap.specs.Words.{first_value, found_of}
+use Rattle.clap.specs.declared.builder.arg.Arg.{Arg}
+use Rattle.clap.specs.declared.builder.command.Command.{Command as Parser}
+use Rattle.clap.specs.declared.parser.matches.ArgMatches.{ArgMatches}
+use Rattle.clap.proofs.CallerLemmas.{required_in_chain}
+use Rattle.command_words.specs.Arguments.{AsksForLog, PassesNumber}
+use Rattle.command_words.proofs.ChainLemmas.{none_apart, number_in_chain, one_more_apart}
+use Rattle.command_words.proofs.ViewLemmas.{passes_number}
+
+abbrev asked : (cmd : Parser) → AsksForLog cmd → List Arg
+asked cmd it = it.log ∷ it.archive ∷ it.master ∷ it.all ∷ it.until ∷ []
+
+audited_apart : (cmd : Parser) (it : AsksForLog cmd) → HasDistinctIds (asked cmd it)
+audited_apart cmd it =
+    let log : length it.log.id.now ≡ 3 = ap (λ r. length r.id) it.log_is in
+    let archive : length it.archive.id.now ≡ 7 = ap (λ r. length r.id) it.archive_is in
+    let master : length it.master.id.now ≡ 6 = ap (λ r. length r.id) it.master_is in
+    let all : length it.all.id.now ≡ 5 = ap (λ r. length r.id) it.all_is in
+    let until : length it.until.id.now ≡ 9 = ap (λ r. length r.id) it.until_is in
+    one_more_apart it.log (it.archive ∷ it.master ∷ it.all ∷ it.until ∷ [])
+    ((λ same. omega arith), ((λ same. omega arith), ((λ same. omega arith), ((λ same. omega arith), tt))))
+    (one_more_apart it.archive (it.master ∷ it.all ∷ it.until ∷ [])
+    ((λ same. omega arith), ((λ same. omega arith), ((λ same. omega arith), tt)))
+    (one_more_apart it.master (it.all ∷ it.until ∷ [])
+    ((λ same. omega arith), ((λ same. omega arith), tt))
+    (one_more_apart it.all (it.until ∷ [])
+    ((λ same. omega arith), tt)
+    (one_more_apart it.until [] tt none_apart))))
+
+-- the log that `audit` requires
+pub audited_log_given : (cmd : Parser) (m : ArgMatches) → AsksForLog cmd → IsParsedFrom cmd m
+    → is_some (first_value (found_of m) (codes "log")) ≡ true
+audited_log_given cmd m it p =
+    let made = it.made in
+    subst (λ id. is_some (first_value (found_of m) id) ≡ true) (ap (λ r. r.id) it.log_is)
+    (required_in_chain made.start cmd (asked cmd it) 0 it.log m made.chain
+    made.no_arguments made.no_groups made.no_globals made.keeps made.fit (audited_apart cmd it) (lit< tt) it.log_required p)
+
+-- the LSN, where it was told
+pub audited_until_passed : (cmd : Parser) (m : ArgMatches) → AsksForLog cmd → IsParsedFrom cmd m
+    → PassesNumber (found_of m) (codes "until_lsn")
+audited_until_passed cmd m it p =
+    let made = it.made in
+    passes_number 0 67108928 (found_of m) it.until.id.now (codes "until_lsn") (lit< tt) (ap (λ r. r.id) it.until_is)
+    (number_in_chain 0 67108928 made.start cmd (asked cmd it) 4 it.until m made.chain made.no_arguments made.no_groups
+    made.no_globals made.fit (audited_apart cmd it) (lit< tt) it.until_parsed p)
