@@ -1,13 +1,15 @@
 //! Lines for a person on standard error, behind the line of a fault.
 
 use crate::reasons::{
-    Named, Reason, reason_of_audit, reason_of_restore, tell_beyond, tell_unsound, what_stands,
+    Named, Reason, STANDARD_INPUT, reason_of_audit, reason_of_restore, reason_of_until,
+    tell_beyond, tell_unsound, what_stands,
 };
 use copy_audit::Unsound;
 use copy_coverage::Retired;
 use copy_vault::{CopyId, MAX_COPIES};
 use event_script::{BadLine, MAX_SCRIPT_BYTES, ScriptFault};
-use media_restore::RestoreFault;
+use log_store::LogReadFault;
+use media_restore::{RestoreFault, UntilFault};
 use saved_files::{SaveFault, SavedName};
 use script_run::RunFault;
 use std::alloc::{AllocError, Global};
@@ -60,6 +62,27 @@ pub fn tell_audited(rt: &HostRuntime, names: &Named<'_>, fault: &Unsound, notes:
         failed,
         reason_of_audit(rt, names, place, fault),
     );
+}
+
+/// The same of a log that was to count up to one of its records.
+pub fn tell_until(rt: &HostRuntime, names: &Named<'_>, fault: &UntilFault, notes: &Notes) {
+    let failed = match fault {
+        UntilFault::OfLog(LogReadFault::OutOfMemory) => return,
+        UntilFault::OfLog(LogReadFault::ReadFault) => notes.error(),
+        _ => None,
+    };
+    let reason = reason_of_until(rt, names.log, fault);
+    tell_file(rt, names, 0, failed, reason);
+}
+
+/// The same of that on standard input.
+pub fn tell_input_until(rt: &HostRuntime, fault: &UntilFault, input: &Notes) {
+    if let UntilFault::OfLog(LogReadFault::ReadFault) = fault {
+        return tell_unread(rt, input);
+    }
+    if let Some(reason) = reason_of_until(rt, STANDARD_INPUT, fault) {
+        let _ = eprintln!(rt; "imgcopy: standard input: {reason}");
+    }
 }
 
 fn tell_no_copy(rt: &impl Eprint) {

@@ -7,6 +7,7 @@ ghost use Rattle.script_run.specs.Status.{status_of_audit};
 use crate::manifests::Checks;
 use crate::read_once::ReadOnce;
 use crate::reasons::Named;
+use crate::untils::audit_until;
 use crate::{answered, told_unprinted};
 use checked_files::CheckedFiles;
 use copy_audit::{Sound, Unsound};
@@ -18,43 +19,54 @@ use script_run::{FAULT_STATUS, audit_status, restore_status};
 use std::process::ExitCode;
 use system_files::{Notes, SystemFiles};
 
-/// Audits a chain of copies against a log, and the master record first, if one is named. What reads
-/// the log twice reads it once where it is no regular file.
+/// Audits a chain of copies against a log, and the master record first, if one is named. The log
+/// counts up to the record at an LSN, if one is told: then no master record is read. What reads the
+/// log twice reads it once where it is no regular file.
 pub fn audit(rt: &HostRuntime, names: &Named<'_>, all: bool) -> ExitCode {
     let notes = Notes::new();
     let Some(checks) = Checks::of(rt, names) else {
         return ExitCode::from(FAULT_STATUS);
     };
+    if let Some(until) = names.until {
+        return audit_until(rt, (names, &notes, &checks), all, until);
+    }
     if names.master.is_none() && !all {
         let files = SystemFiles {
             files: rt,
             notes: &notes,
         };
-        return audit_checked(rt, &files, names, &notes, all, &checks);
+        return audit_checked(rt, &files, (names, &notes, &checks), all);
     }
     match ReadOnce::of(rt, names, &notes) {
-        Ok(files) => audit_checked(rt, &&files, names, &notes, all, &checks),
-        Err(fault) => {
-            let fault = match fault {
-                ViewFault::OutOfMemory => Unsound::OutOfMemory,
-                _ => Unsound::ReadFault,
-            };
-            let status = answered(rt, &fault, audit_status(&fault));
-            checks.tell_audited(rt, names, &fault, &notes);
-            status
-        }
+        Ok(files) => audit_checked(rt, &&files, (names, &notes, &checks), all),
+        Err(fault) => told_unkept(rt, (names, &notes, &checks), &fault),
     }
 }
 
+/// Tells that an input that can be read but once was not read whole.
+pub fn told_unkept(
+    rt: &HostRuntime,
+    read: (&Named<'_>, &Notes, &Checks<'_>),
+    fault: &ViewFault,
+) -> ExitCode {
+    let (names, notes, checks) = read;
+    let fault = match fault {
+        ViewFault::OutOfMemory => Unsound::OutOfMemory,
+        _ => Unsound::ReadFault,
+    };
+    let status = answered(rt, &fault, audit_status(&fault));
+    checks.tell_audited(rt, names, &fault, notes);
+    status
+}
+
 /// Audits these files, which are checked where a manifest names them.
-fn audit_checked<N: NamedFiles>(
+pub fn audit_checked<N: NamedFiles>(
     rt: &HostRuntime,
     files: &N,
-    names: &Named<'_>,
-    notes: &Notes,
+    read: (&Named<'_>, &Notes, &Checks<'_>),
     all: bool,
-    checks: &Checks<'_>,
 ) -> ExitCode {
+    let (names, notes, checks) = read;
     let files = CheckedFiles {
         files,
         expected: checks.expected.as_slice(),

@@ -25,6 +25,7 @@ mod redone_volume;
 mod restores;
 mod saving;
 mod strict;
+mod untils;
 mod view;
 
 use advice::{tell_script, tell_unread, tell_unwritten};
@@ -56,6 +57,7 @@ use std::thread::Threads;
 use std::{fmt, io};
 use strict::{Kept, Refusals, Tallied, line_of_call};
 use system_files::{EscapedText, Noted, Notes, Patient};
+use untils::{redo_until_into, redo_until_out};
 use view::show;
 
 /// How many bytes of a script are kept at most, to show a bad line.
@@ -68,7 +70,18 @@ fn main(rt: HostRuntime) -> ExitCode {
     };
     match command_of(rt.alloc(), words.as_slice()) {
         Ok(Command::Redo) => redo(&rt),
-        Ok(Command::RedoInto { output, force }) => redo_into(&rt, output, force),
+        Ok(
+            Command::RedoInto {
+                output,
+                force,
+                until,
+            },
+        ) => match (output, lsn_of(until)) {
+            (None, None) => redo(&rt),
+            (Some(path), None) => redo_into(&rt, path, force),
+            (None, Some(until)) => redo_until_out(&rt, until),
+            (Some(path), Some(until)) => redo_until_into(&rt, path, force, until),
+        },
         Ok(
             Command::Run {
                 pages,
@@ -107,12 +120,14 @@ fn main(rt: HostRuntime) -> ExitCode {
                 output,
                 log_output,
                 force,
+                until,
             },
         ) => {
             let names = Named {
                 log,
                 master: Some(master),
                 archives: &archives,
+                until: lsn_of(until),
             };
             let outputs = Outputs {
                 volume: output,
@@ -127,12 +142,14 @@ fn main(rt: HostRuntime) -> ExitCode {
                 archives,
                 master,
                 all,
+                until,
             },
         ) => {
             let names = Named {
                 log,
                 master,
                 archives: &archives,
+                until: lsn_of(until),
             };
             audit(&rt, &names, all)
         }
@@ -144,6 +161,7 @@ fn main(rt: HostRuntime) -> ExitCode {
                 txn,
                 page,
                 json,
+                commits,
             },
         ) => {
             let wanted = Wanted {
@@ -151,6 +169,7 @@ fn main(rt: HostRuntime) -> ExitCode {
                 to: lsn_of(to),
                 txn: txn.map(|number| TxnNo(number)),
                 page: page.map(|number| PageNo(number)),
+                commits,
             };
             show(&rt, file, &wanted, form_of(json))
         }

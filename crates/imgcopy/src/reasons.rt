@@ -7,7 +7,7 @@ use copy_vault::{ArchiveFault, CopyId};
 use file_view::{CopyHeader, ViewFault, read_copy_header};
 use log_records::{RECORD_BYTES, log_header};
 use log_store::{LogReadFault, Reached, broken_rule_at, scan_to_fault};
-use media_restore::RestoreFault;
+use media_restore::{RestoreFault, UntilFault};
 use page_core::field::u64_at;
 use page_core::{Lsn, PAGE_BYTES, PageNo};
 use page_redo::StreamFault;
@@ -16,17 +16,18 @@ use std::{fmt, fs};
 use system_files::{Escaped, Notes};
 
 /// The place of the first archive, behind the log and the master record.
-const FIRST_ARCHIVE: usize = 2;
+pub(crate) const FIRST_ARCHIVE: usize = 2;
 
 /// The name that the system has for standard input.
 pub const STANDARD_INPUT: &str = "/dev/stdin";
 
-/// The files of a restore or an audit.
+/// The files of a restore or an audit, and up to which record the log counts, if that is told.
 #[derive(Drop)]
 pub struct Named<'a> {
     pub log: &'a str,
     pub master: Option<&'a str>,
     pub archives: &'a [&'a str],
+    pub until: Option<Lsn>,
 }
 
 impl<'a> Named<'a> {
@@ -41,6 +42,14 @@ impl<'a> Named<'a> {
             0 => Some(self.log),
             1 => self.master,
             _ => Some(*self.archives.get(place - FIRST_ARCHIVE)?),
+        }
+    }
+
+    /// Where the log ends, as far as it counts.
+    fn log_end(&self, rt: &HostRuntime) -> Option<u64> {
+        match self.until {
+            Some(until) => Some(until.0.saturating_add(RECORD_BYTES as u64)),
+            None => end_of(rt, self.log),
         }
     }
 }
@@ -94,6 +103,10 @@ pub enum Reason {
     Unsound(u32, u64),
     /// Other bytes stand in the place of this page of a volume.
     NoPage(u64),
+    /// No record of the log begins where it was to end. Its last one is here, or it has none.
+    NoRecord(u64),
+    /// No checkpoint is complete where the log was to end.
+    NoPoint,
 }
 
 impl fmt::Display for Reason {
@@ -149,6 +162,12 @@ impl fmt::Display for Reason {
                 "page {page} is not what the log made of it, or lacks a change below LSN {redo}"
             ),
             Reason::NoPage(page) => write!(f, "the bytes there are not page {page}"),
+            Reason::NoRecord(0) => f.write_str("has no record"),
+            Reason::NoRecord(last) => write!(
+                f,
+                "no record begins there: one does at each 64th byte, from 64 to {last}"
+            ),
+            Reason::NoPoint => f.write_str("no checkpoint is complete by then"),
         }
     }
 }
@@ -190,7 +209,7 @@ pub fn reason_of_restore(
         RestoreFault::BadArchive(0) => reason_of_header(rt, name, place),
         RestoreFault::ChainBroken(_) => reason_of_broken(rt, names, place),
         RestoreFault::CountDiffers => reason_of_count(rt, name),
-        RestoreFault::PageBeyondLog(page) => Some(Reason::PageLsn(page.0, end_of(rt, names.log)?)),
+        RestoreFault::PageBeyondLog(page) => Some(Reason::PageLsn(page.0, names.log_end(rt)?)),
         _ => None,
     }
 }
@@ -213,7 +232,7 @@ pub fn reason_of_audit(
         Unsound::BadChain(at) => reason_of_chain(rt, name, *at),
         Unsound::ChainBroken(_) => reason_of_broken(rt, names, place),
         Unsound::CountDiffers => reason_of_count(rt, name),
-        Unsound::PageBeyondLog(page) => Some(Reason::PageLsn(page.0, end_of(rt, names.log)?)),
+        Unsound::PageBeyondLog(page) => Some(Reason::PageLsn(page.0, names.log_end(rt)?)),
         _ => None,
     }
 }
@@ -257,6 +276,23 @@ fn reason_of_view(rt: &HostRuntime, name: &str, fault: &ViewFault) -> Option<Rea
     }
 }
 
+/// What is wrong with a log that was to count up to one of its records.
+pub fn reason_of_until(rt: &HostRuntime, name: &str, fault: &UntilFault) -> Option<Reason> {
+    if !is_regular(rt, name) {
+        return None;
+    }
+    match fault {
+        UntilFault::NoRecord(_) => {
+            let count = (end_of(rt, name)? / RECORD_BYTES as u64).saturating_sub(1);
+            Some(Reason::NoRecord(count.saturating_mul(RECORD_BYTES as u64)))
+        }
+        UntilFault::NoCheckpoint => Some(Reason::NoPoint),
+        UntilFault::OfLog(LogReadFault::BadHeader) => reason_of_header(rt, name, 0),
+        UntilFault::OfLog(fault) => reason_of_log(rt, name, fault),
+        UntilFault::WriteFault(_) => None,
+    }
+}
+
 fn reason_of_log(rt: &HostRuntime, name: &str, fault: &LogReadFault) -> Option<Reason> {
     match fault {
         LogReadFault::BadRecord(at) => reason_of_record(rt, name, *at),
@@ -285,7 +321,7 @@ fn reason_of_first_bytes(rt: &HostRuntime, name: &str) -> Option<Reason> {
 
 /// Names the copy whose redo point is not below the log's end.
 pub fn tell_beyond(rt: &HostRuntime, names: &Named<'_>) {
-    let Some(end) = end_of(rt, names.log) else {
+    let Some(end) = names.log_end(rt) else {
         return;
     };
     for name in names.archives {

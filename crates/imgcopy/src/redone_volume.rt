@@ -1,5 +1,7 @@
 //! The volume of a log, as what a file is made of.
 
+use media_restore::{UntilFault, redo_until};
+use page_core::Lsn;
 use page_redo::{StreamFault, redo_stream};
 use saved_files::Source;
 use std::alloc::Global;
@@ -22,5 +24,26 @@ impl<R: Read + Drop> Source for RedoneVolume<R> {
 
     fn write_to<W: Write>(&mut self, alloc: Global, writer: &mut W) -> Result<(), StreamFault> {
         redo_stream(alloc, &mut self.log, writer)
+    }
+}
+
+/// The volume that `redo_until` makes of the log that a reader gives.
+#[derive(Drop)]
+pub struct RedoneUntil<R: Read + Drop> {
+    pub log: R,
+    pub until: Lsn,
+}
+
+impl<R: Read + Drop> Source for RedoneUntil<R> {
+    ghost use Rattle.media_restore.specs.Until.{LeavesUntil, WritesUntil};
+
+    type Fault = UntilFault;
+
+    ghost gives = { λ it. WritesUntil (R.remaining it.log) it.until };
+
+    ghost leaves = { λ it fault old new. LeavesUntil (R.remaining it.log) it.until old new fault };
+
+    fn write_to<W: Write>(&mut self, alloc: Global, writer: &mut W) -> Result<(), UntilFault> {
+        redo_until(alloc, &mut self.log, self.until, writer)
     }
 }

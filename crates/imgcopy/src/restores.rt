@@ -12,9 +12,10 @@ use crate::manifests::Checks;
 use crate::output::{Inputs, Limits, have_one_folder, is_one_place, tell, tell_output};
 use crate::output_folder::OutputFolder;
 use crate::reasons::Named;
+use crate::untils::restore_until;
 use crate::{noted, patient, refused_terminal};
 use media_restore::{RestoreFault, WithLogFault};
-use saved_files::{PutBothFault, PutFault, PutStoredFault, RestoreNames, Which};
+use saved_files::{NamedFiles, PutBothFault, PutFault, PutStoredFault, RestoreNames, Which};
 use script_run::{FAULT_STATUS, restore_status};
 use std::io;
 use std::io::IsTerminal;
@@ -31,8 +32,8 @@ pub struct Outputs<'a> {
     pub force: bool,
 }
 
-/// Restores a volume from files, and its log if a file for that is named. A file that a manifest
-/// names has to be that file.
+/// Restores a volume from files, and its log if a file for that is named. The log counts up to the
+/// record at an LSN, if one is told. A file that a manifest names has to be that file.
 pub fn restore(
     rt: &HostRuntime,
     threads: &(impl Threads + Sync),
@@ -40,52 +41,72 @@ pub fn restore(
     master: &str,
     outputs: Outputs<'_>,
 ) -> ExitCode {
-    match Checks::of(rt, names) {
-        Some(checks) => restore_checked(rt, threads, names, master, &checks, outputs),
-        None => ExitCode::from(FAULT_STATUS),
+    let notes = Notes::new();
+    let Some(checks) = Checks::of(rt, names) else {
+        return ExitCode::from(FAULT_STATUS);
+    };
+    if let Some(until) = names.until {
+        return restore_until(
+            rt,
+            threads,
+            (names, &notes, &checks),
+            master,
+            outputs,
+            until,
+        );
     }
+    let files = SystemFiles {
+        files: rt,
+        notes: &notes,
+    };
+    restore_from(
+        rt,
+        threads,
+        &files,
+        (names, &notes, &checks),
+        master,
+        outputs,
+    )
 }
 
-fn restore_checked(
+/// The same, from files that are read by their names, of which the notes know why one was not read.
+pub fn restore_from<N: NamedFiles>(
     rt: &HostRuntime,
     threads: &(impl Threads + Sync),
-    names: &Named<'_>,
+    files: &N,
+    read: (&Named<'_>, &Notes, &Checks<'_>),
     master: &str,
-    checks: &Checks<'_>,
     outputs: Outputs<'_>,
 ) -> ExitCode {
+    let (names, _, _) = read;
     let limits = Limits {
         inputs: Inputs::Named(names),
         force: outputs.force,
     };
     match (outputs.volume, outputs.log) {
-        (None, None) => restore_out(rt, threads, names, master, checks),
-        (Some(path), None) => restore_into(rt, threads, names, master, checks, (path, limits)),
-        (None, Some(log)) => restore_log_into(rt, threads, names, master, checks, (log, limits)),
+        (None, None) => restore_out(rt, threads, files, read, master),
+        (Some(path), None) => restore_into(rt, threads, files, read, master, (path, limits)),
+        (None, Some(log)) => restore_log_into(rt, threads, files, read, master, (log, limits)),
         (Some(path), Some(log)) => {
-            restore_both_into(rt, threads, names, master, checks, (path, log, limits))
+            restore_both_into(rt, threads, files, read, master, (path, log, limits))
         }
     }
 }
 
 /// Restores a volume to standard output.
-fn restore_out(
+fn restore_out<N: NamedFiles>(
     rt: &HostRuntime,
     threads: &(impl Threads + Sync),
-    names: &Named<'_>,
+    files: &N,
+    read: (&Named<'_>, &Notes, &Checks<'_>),
     master: &str,
-    checks: &Checks<'_>,
 ) -> ExitCode {
     if rt.stdout().is_terminal() {
         return refused_terminal(rt);
     }
-    let (notes, output) = (Notes::new(), Notes::new());
-    let files = SystemFiles {
-        files: rt,
-        notes: &notes,
-    };
+    let ((names, notes, checks), output) = (read, Notes::new());
     let done = checked_volume(
-        &files,
+        files,
         checks,
         threads,
         rt.alloc(),
@@ -95,38 +116,34 @@ fn restore_out(
     let status = status_of_files(rt, &done);
     match &done {
         Err(RestoreFault::WriteFault(_)) => tell_unwritten(rt, &output),
-        Err(fault) => checks.tell_input(rt, names, fault, &notes),
+        Err(fault) => checks.tell_input(rt, names, fault, notes),
         Ok(()) => {}
     }
     status
 }
 
 /// The same, into a file.
-fn restore_into(
+fn restore_into<N: NamedFiles>(
     rt: &HostRuntime,
     threads: &(impl Threads + Sync),
-    names: &Named<'_>,
+    files: &N,
+    read: (&Named<'_>, &Notes, &Checks<'_>),
     master: &str,
-    checks: &Checks<'_>,
     output: (&str, Limits<'_>),
 ) -> ExitCode {
     let (path, limits) = output;
-    let (notes, written) = (Notes::new(), Notes::new());
+    let ((names, notes, checks), written) = (read, Notes::new());
     let Some(mut folder) = OutputFolder::of(rt, path, limits, &written) else {
         return ExitCode::from(FAULT_STATUS);
     };
-    let files = SystemFiles {
-        files: rt,
-        notes: &notes,
-    };
     let (name, from) = (folder.name(), restored_from(names, master));
-    match put_checked_volume(&mut folder, rt.alloc(), name, &files, checks, threads, from) {
+    match put_checked_volume(&mut folder, rt.alloc(), name, files, checks, threads, from) {
         Ok(()) => ExitCode::SUCCESS,
         Err(PutStoredFault::Unput(PutFault::Unwritten(fault))) => {
             let status = status_of_files(rt, &Err(fault));
             match &fault {
                 RestoreFault::WriteFault(_) => tell_output(rt, path, &written),
-                fault => checks.tell_input(rt, names, fault, &notes),
+                fault => checks.tell_input(rt, names, fault, notes),
             }
             status
         }
@@ -136,25 +153,21 @@ fn restore_into(
 
 /// Restores a volume to standard output, and its log into a file, which is put in place once all of
 /// the volume went out.
-fn restore_log_into(
+fn restore_log_into<N: NamedFiles>(
     rt: &HostRuntime,
     threads: &(impl Threads + Sync),
-    names: &Named<'_>,
+    files: &N,
+    read: (&Named<'_>, &Notes, &Checks<'_>),
     master: &str,
-    checks: &Checks<'_>,
     output: (&str, Limits<'_>),
 ) -> ExitCode {
     let (path, limits) = output;
     if rt.stdout().is_terminal() {
         return refused_terminal(rt);
     }
-    let (notes, output, written) = (Notes::new(), Notes::new(), Notes::new());
+    let ((names, notes, checks), output, written) = (read, Notes::new(), Notes::new());
     let Some(mut folder) = OutputFolder::of(rt, path, limits, &written) else {
         return ExitCode::from(FAULT_STATUS);
-    };
-    let files = SystemFiles {
-        files: rt,
-        notes: &notes,
     };
     let mut volume = noted(patient(rt, io::writer(rt)), &output);
     let (name, from) = (folder.name(), restored_from(names, master));
@@ -162,7 +175,7 @@ fn restore_log_into(
         &mut folder,
         rt.alloc(),
         name,
-        &files,
+        files,
         checks,
         threads,
         from,
@@ -177,7 +190,7 @@ fn restore_log_into(
                 WithLogFault::OfVolume(RestoreFault::WriteFault(_)) => {
                     tell_unwritten(rt, &output);
                 }
-                WithLogFault::OfVolume(fault) => checks.tell_input(rt, names, fault, &notes),
+                WithLogFault::OfVolume(fault) => checks.tell_input(rt, names, fault, notes),
             }
             status
         }
@@ -189,12 +202,12 @@ fn restore_log_into(
 /// before the log takes its own and then the volume: so where one of them does not reach the disk,
 /// or is refused, neither has its name. Only where the log's folder cannot be synced, or the volume
 /// cannot be renamed, is the log in place alone.
-fn restore_both_into(
+fn restore_both_into<N: NamedFiles>(
     rt: &HostRuntime,
     threads: &(impl Threads + Sync),
-    names: &Named<'_>,
+    files: &N,
+    read: (&Named<'_>, &Notes, &Checks<'_>),
     master: &str,
-    checks: &Checks<'_>,
     outputs: (&str, &str, Limits<'_>),
 ) -> ExitCode {
     let (path, log, limits) = outputs;
@@ -202,14 +215,10 @@ fn restore_both_into(
         tell(rt, log, &"the volume is to be written there, too");
         return ExitCode::from(FAULT_STATUS);
     }
-    let (notes, written, log_written) = (Notes::new(), Notes::new(), Notes::new());
+    let ((names, notes, checks), written, log_written) = (read, Notes::new(), Notes::new());
     let folders = folders_of(rt, (path, &written), (log, &log_written), limits);
     let Some((mut folder, mut log_folder)) = folders else {
         return ExitCode::from(FAULT_STATUS);
-    };
-    let files = SystemFiles {
-        files: rt,
-        notes: &notes,
     };
     let (log_name, name) = (log_folder.name(), folder.name());
     let done = put_checked_both(
@@ -218,7 +227,7 @@ fn restore_both_into(
         &mut folder,
         name,
         rt.alloc(),
-        &files,
+        files,
         checks,
         threads,
         restored_from(names, master),
@@ -232,7 +241,7 @@ fn restore_both_into(
                 WithLogFault::OfVolume(RestoreFault::WriteFault(_)) => {
                     tell_output(rt, path, &written);
                 }
-                WithLogFault::OfVolume(fault) => checks.tell_input(rt, names, fault, &notes),
+                WithLogFault::OfVolume(fault) => checks.tell_input(rt, names, fault, notes),
             }
             status
         }
