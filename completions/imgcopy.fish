@@ -22,6 +22,7 @@ complete -c imgcopy -n '__fish_seen_subcommand_from run open' -l pages -x -d 'Ho
 complete -c imgcopy -n '__fish_seen_subcommand_from run open' -l frames -x -d 'How many pages in memory'
 complete -c imgcopy -n '__fish_seen_subcommand_from run' -l save -x -a '(__fish_complete_directories)' -d 'The folder of the files'
 complete -c imgcopy -n '__fish_seen_subcommand_from redo restore run' -l force -d 'Replace a log, a copy or an input'
+complete -c imgcopy -n '__fish_seen_subcommand_from redo restore audit' -l until -x -d 'The last LSN that counts'
 complete -c imgcopy -n '__fish_seen_subcommand_from open' -l salvage -d 'Go on from a damaged log'
 complete -c imgcopy -n '__fish_seen_subcommand_from run open' -l strict -d 'Status 1 if a call was refused'
 complete -c imgcopy -n '__fish_seen_subcommand_from open backup verify list renew' -a '(__fish_complete_directories)'
@@ -34,4 +35,5 @@ complete -c imgcopy -n '__fish_seen_subcommand_from show' -l from -x -d 'The lea
 complete -c imgcopy -n '__fish_seen_subcommand_from show' -l to -x -d 'The greatest LSN'
 complete -c imgcopy -n '__fish_seen_subcommand_from show' -l txn -x -d 'A transaction'
 complete -c imgcopy -n '__fish_seen_subcommand_from show' -l page -x -d 'A page'
+complete -c imgcopy -n '__fish_seen_subcommand_from show' -l commits -d 'The commits alone'
 complete -c imgcopy -n '__fish_seen_subcommand_from show list' -l json -d 'An object of JSON a line'

@@ -180,6 +180,7 @@ run_checks() {
     check output_calls "$program" python3 rustc -- preload file_calls checks.output_calls "$program"
     check manifests "$program" python3 -- python3 -m checks.manifests "$program"
     check log_out "$program" python3 -- python3 -m checks.log_out "$program"
+    check until "$program" python3 -- python3 -m checks.until "$program"
     check show "$program" python3 -- python3 -m checks.show "$program"
     check views "$program" python3 -- python3 -m checks.views "$program"
     check guide "$program" python3 -- python3 -m checks.guide "$program"
