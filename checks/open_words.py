@@ -4,7 +4,7 @@ usage: python3 -m checks.open_words PROGRAM
 
 A flush answers how many writes have ended. A checkpoint writes the dirty pages first, so that its redo point is its own
 begin, and its master record is there once it is answered; where one is open, the refusal is that of the call. A line with
-more behind a word is a bad line, `quit` ends the input as its end does, and `help` has a line for each word and call.
+more behind a word is a bad line, `quit` ends the input as its end does, `status` tells what there is, and `help` has a line for each word and call.
 With `--strict` a word that is refused counts as a call does. At a terminal, and only there, a prompt stands before each
 line.
 """
@@ -24,7 +24,7 @@ MADE = ["begin", "set 1 0 0 5", "set 1 1 0 6", "commit 1"]
 ANSWERS = ["began 1 at 64", "lsn 128", "lsn 192", "lsn 256"]
 CALLS = ["begin", "set", "add", "read", "save", "undoto", "commit", "abort", "undo", "force", "extend", "wbegin", "wend",
          "ckpt", "gather", "endckpt", "full", "inc", "take", "seal", "drop", "repair"]
-WORDS = ["checkpoint", "flush", "help", "quit"]
+WORDS = ["checkpoint", "flush", "status", "help", "quit"]
 
 
 class Words:
@@ -89,6 +89,19 @@ def the_end(words):
     words.wants("quit", answers == [BEGUN, *ANSWERS] and done.returncode == 0 and is_closed, done)
 
 
+def status_lines(words):
+    _, done, answers = words.open(["status"])
+    none = ["status pages 2", "status records 0 left 1048576", "status dirty 0", "status end"]
+    words.wants("the status of a new database", answers == [BEGUN, *none] and done.returncode == 0, done)
+    lines = [*MADE, "checkpoint", "full", "take 1 0", "take 1 1", "seal 1", "inc 1", "take 2 0", "take 2 1", "seal 2",
+             "begin", "set 2 0 0 1", "begin", "status"]
+    _, done, answers = words.open(lines)
+    some = ["status pages 2", "status records 9 left 1048567", "status dirty 1", "status open 2", "status open 3",
+            "status point 320 384 320", "status copy 1 full pages 2 taken 2", "status copy 2 on 1 pages 2 taken 0",
+            "status end"]
+    words.wants("a status", answers[-len(some):] == some, done)
+
+
 def help_lines(words):
     _, done, answers = words.open(["help", "flush"])
     names = [answer.split(":")[0].split()[0] for answer in answers[1:-1]]
@@ -118,7 +131,8 @@ def main(arguments):
             raise Failure("usage: python3 -m checks.open_words PROGRAM")
         with tempfile.TemporaryDirectory() as place:
             words = Words(program_of(arguments[0]), Path(place))
-            for look in (pages_that_are_written, checkpoints, lines_that_are_no_words, the_end, help_lines, a_terminal):
+            for look in (pages_that_are_written, checkpoints, lines_that_are_no_words, the_end, status_lines, help_lines,
+                         a_terminal):
                 look(words)
     except (Failure, OSError, subprocess.SubprocessError) as failure:
         sys.exit(f"open_words.py: {failure}")

@@ -24,7 +24,7 @@ use Rattle.open_database.specs.Words.{not_gathered, one_line, one_step, pages_fi
 use Rattle.open_database.specs.declared.said.Said.{Said}
 use Rattle.open_database.specs.declared.said.Said.TheVariants.{Reply}
 use Rattle.open_database.specs.declared.session.ServeFault.{ServeFault}
-use Rattle.open_database.specs.declared.word.Word.TheVariants.{Checkpoint, Flush, Help}
+use Rattle.open_database.specs.declared.word.Word.TheVariants.{Checkpoint, Flush, Help, Status}
 use Rattle.open_database.specs.declared.word_said.WordSaid.TheVariants.{Call, Flushed}
 use Rattle.saved_files.specs.Folder.{Entries}
 
@@ -325,4 +325,42 @@ help_left (Err fault) s text entries is_stored before after left = record {
   in_place = tt;
   stored = tt;
   left = left;
+}
+
+-- some text was written, or left
+pub some_text : {T : Type 0} (r : Result T ServeFault) (text : List ℕ) (before after : Option (List ℕ))
+    → OnOk r (Appends before after text) → OnOk r ((it : List ℕ) × Appends before after it)
+some_text (Ok x) text before after written = (text, written)
+some_text (Err fault) text before after written = tt
+
+pub some_left : {T : Type 0} (r : Result T ServeFault) (text : List ℕ) (before after : Option (List ℕ))
+    → IfErr r (LeavesLine before after text) → IfErr r (λ fault. (it : List ℕ) × LeavesLine before after it fault)
+some_left (Ok x) text before after left = tt
+some_left (Err fault) text before after left = (text, left)
+
+pub status_taken : {T : Type 0} (r : Result T ServeFault) (s : EngineState) (entries : Option Entries)
+    (is_stored : Type 0) (before after : Option (List ℕ)) → OnOk r ((text : List ℕ) × Appends before after text)
+    → OnOk r (TakesWord Status s s entries is_stored before after)
+status_taken (Ok x) s entries is_stored before after written = record {
+  told = lines written.0;
+  made = runs_nothing (λ events replies. SaysOfWord Status events replies (lines written.0)) s
+      (telling Status written.0 tt);
+  in_place = tt;
+  stored = tt;
+  written = written.1;
+}
+status_taken (Err fault) s entries is_stored before after written = tt
+
+pub status_left : {T : Type 0} (r : Result T ServeFault) (s : EngineState) (entries : Option Entries)
+    (is_stored : Type 0) (before after : Option (List ℕ))
+    → IfErr r (λ fault. (text : List ℕ) × LeavesLine before after text fault)
+    → IfErr r (LeavesWord Status s s entries is_stored before after)
+status_left (Ok x) s entries is_stored before after left = tt
+status_left (Err fault) s entries is_stored before after left = record {
+  told = lines left.0;
+  made = runs_nothing (λ events replies. SaysOfWord Status events replies (lines left.0)) s
+      (telling Status left.0 tt);
+  in_place = tt;
+  stored = tt;
+  left = left.1;
 }

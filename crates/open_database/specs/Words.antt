@@ -17,7 +17,7 @@ use Rattle.open_database.specs.Said.{IsAnswerOr, line_of_said}
 use Rattle.open_database.specs.declared.said.Said.{Said}
 use Rattle.open_database.specs.declared.said.Said.TheVariants.{Reply}
 use Rattle.open_database.specs.declared.word.Word.{Word}
-use Rattle.open_database.specs.declared.word.Word.TheVariants.{Checkpoint, Flush, Help}
+use Rattle.open_database.specs.declared.word.Word.TheVariants.{Checkpoint, Flush, Help, Status}
 use Rattle.open_database.specs.declared.word_said.WordSaid.{WordSaid}
 use Rattle.open_database.specs.declared.word_said.WordSaid.TheVariants.{Call, Flushed}
 
@@ -27,6 +27,7 @@ use Rattle.open_database.specs.declared.word_said.WordSaid.TheVariants.{Call, Fl
 abbrev pub IsSpelled : List ℕ → Word → Type 0
 IsSpelled text Checkpoint = text ≡ codes "checkpoint"
 IsSpelled text Flush = text ≡ codes "flush"
+IsSpelled text Status = text ≡ codes "status"
 IsSpelled text Help = text ≡ codes "help"
 
 -- a line has this text, and white space around it at most
@@ -118,6 +119,7 @@ IsSaidOnce (Err why) said = said ≡ Reply (Err why)
 
 -- a word tells of the database alone, or of the words
 abbrev pub IsTelling : Word → Type 0
+IsTelling Status = Unit {0}
 IsTelling Help = Unit {0}
 IsTelling other = ⊥
 

@@ -4,6 +4,7 @@
 pub(crate) const HELP: &str = "\
     checkpoint: write each dirty page, and make a whole checkpoint\n\
     flush: write each dirty page\n\
+    status: pages, records, what is open and dirty, the last checkpoint, and complete copies\n\
     help: these lines\n\
     quit: close the database, as the end of the input does\n\
     begin: begin a transaction\n\

@@ -40,6 +40,7 @@ mod restarted;
 mod said;
 mod second_folder;
 mod session;
+mod status;
 mod tally;
 mod told;
 mod told_store;

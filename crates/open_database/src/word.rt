@@ -12,6 +12,8 @@ pub(crate) enum Word {
     Checkpoint,
     /// Each dirty page is written.
     Flush,
+    /// What the database has is told.
+    Status,
     /// The words and the calls are told.
     Help,
 }
@@ -42,6 +44,8 @@ fn lone_word(text: &[u8]) -> Option<Word>
         Some(Word::Checkpoint)
     } else if text == b"flush".as_slice() {
         Some(Word::Flush)
+    } else if text == b"status".as_slice() {
+        Some(Word::Status)
     } else if text == b"help".as_slice() {
         Some(Word::Help)
     } else {
@@ -60,7 +64,7 @@ fn first_word(text: &[u8]) -> &[u8] {
 /// What is wrong with a line that begins with this and is no word, if a word does.
 fn trouble_of(first: &[u8]) -> Option<LineTrouble> {
     match first {
-        b"checkpoint" | b"flush" | b"help" | b"quit" => Some(LineTrouble::NotAlone),
+        b"checkpoint" | b"flush" | b"status" | b"help" | b"quit" => Some(LineTrouble::NotAlone),
         _ => None,
     }
 }

@@ -1,8 +1,9 @@
 use Rattle.std.proofs.Common.{subst, sym}
 use Rattle.std.specs.Prelude.{IfErr, OnOk}
-use Rattle.open_database.proofs.WordRuns.{help_left, help_taken}
+use Rattle.open_database.proofs.WordRuns.{help_left, help_taken, status_left, status_taken}
 use Rattle.open_database.specs.Session.{LeavesWord, TakesWord}
 use Rattle.open_database.specs.declared.word.Word.{Word}
+use Rattle.open_database.specs.declared.word.Word.TheVariants.{Status}
 use Rattle.open_database.proofs.session.Session.take_word.Goals as goal
 
 pub returns-in-Help-clause-taken : goal.returns-in-Help-clause-taken
@@ -24,3 +25,31 @@ returns-in-Help-clause-left g c =
     (help_left c.write_text.result c.args.self.now.engine.state c.as_bytes.result.now
     (g.F.Folder.entries c.args.self.now.folder) (g.F.Folder.is_stored c.args.self.now.folder)
     (g.W.Write.contents c.args.writer.now) (g.W.Write.contents c.write_text.new.writer) c.write_text.ensures.err)
+
+pub returns-in-Status-clause-taken : goal.returns-in-Status-clause-taken
+returns-in-Status-clause-taken g c =
+    subst (λ (word : Word). OnOk c.tell_status.result (TakesWord word c.args.self.now.engine.state
+    c.tell_status.new.self.engine.state (g.F.Folder.entries c.tell_status.new.self.folder)
+    (g.F.Folder.is_stored c.tell_status.new.self.folder) (g.W.Write.contents c.args.writer.now)
+    (g.W.Write.contents c.tell_status.new.writer))) (sym c.in-Status.is)
+    (subst (λ engine. OnOk c.tell_status.result (TakesWord Status c.args.self.now.engine.state engine.state
+    (g.F.Folder.entries c.tell_status.new.self.folder) (g.F.Folder.is_stored c.tell_status.new.self.folder)
+    (g.W.Write.contents c.args.writer.now) (g.W.Write.contents c.tell_status.new.writer)))
+    (sym c.tell_status.ensures.engine)
+    (status_taken c.tell_status.result c.args.self.now.engine.state (g.F.Folder.entries c.tell_status.new.self.folder)
+    (g.F.Folder.is_stored c.tell_status.new.self.folder) (g.W.Write.contents c.args.writer.now)
+    (g.W.Write.contents c.tell_status.new.writer) c.tell_status.ensures.ok))
+
+pub returns-in-Status-clause-left : goal.returns-in-Status-clause-left
+returns-in-Status-clause-left g c =
+    subst (λ (word : Word). IfErr c.tell_status.result (LeavesWord word c.args.self.now.engine.state
+    c.tell_status.new.self.engine.state (g.F.Folder.entries c.tell_status.new.self.folder)
+    (g.F.Folder.is_stored c.tell_status.new.self.folder) (g.W.Write.contents c.args.writer.now)
+    (g.W.Write.contents c.tell_status.new.writer))) (sym c.in-Status.is)
+    (subst (λ engine. IfErr c.tell_status.result (LeavesWord Status c.args.self.now.engine.state engine.state
+    (g.F.Folder.entries c.tell_status.new.self.folder) (g.F.Folder.is_stored c.tell_status.new.self.folder)
+    (g.W.Write.contents c.args.writer.now) (g.W.Write.contents c.tell_status.new.writer)))
+    (sym c.tell_status.ensures.engine)
+    (status_left c.tell_status.result c.args.self.now.engine.state (g.F.Folder.entries c.tell_status.new.self.folder)
+    (g.F.Folder.is_stored c.tell_status.new.self.folder) (g.W.Write.contents c.args.writer.now)
+    (g.W.Write.contents c.tell_status.new.writer) c.tell_status.ensures.err))
