@@ -1,12 +1,9 @@
-//! The commands `backup`, `verify` and `renew`.
+//! The commands `backup` and `renew`.
 
 use crate::output::{parts_of, tell};
-use crate::told_whole;
-use command_words::UsageFault;
 use open_database::{BackupCall, OpenEnd, RenewCall, backup_folder, renew_folder};
 use script_run::FAULT_STATUS;
 use std::process::ExitCode;
-use system_files::EscapedText;
 
 /// Makes a checkpoint and an image copy of the closed database in this folder: on the copy of this
 /// number, or on the newest one, or a full copy.
@@ -16,11 +13,6 @@ pub(crate) fn backup(rt: &HostRuntime, call: &BackupCall<'_>) -> ExitCode {
         return ExitCode::from(FAULT_STATUS);
     }
     status_of(backup_folder(rt, call))
-}
-
-/// Checks the files of this folder against its manifest, and that its copies restore.
-pub(crate) fn verify(rt: &HostRuntime, _folder: &str) -> ExitCode {
-    refused(rt, "verify")
 }
 
 /// Makes a database in the new folder of the numbers of the closed one in the old folder.
@@ -38,10 +30,4 @@ fn status_of(end: OpenEnd) -> ExitCode {
         OpenEnd::Well => ExitCode::SUCCESS,
         OpenEnd::Refused | OpenEnd::Failed => ExitCode::from(FAULT_STATUS),
     }
-}
-
-/// Answers what an unknown command would.
-fn refused(rt: &HostRuntime, name: &str) -> ExitCode {
-    let fault = UsageFault::UnknownCommand(name);
-    told_whole(rt, &EscapedText(&fault))
 }

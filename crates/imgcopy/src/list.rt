@@ -42,7 +42,7 @@ fn told(rt: &impl Eprint, fault: &ViewFault) -> ExitCode {
 
 /// The ids of the copies of a folder, as their names say, in their order. Where the folder cannot
 /// be read, that is told.
-fn ids_in(rt: &HostRuntime, folder: &str) -> Result<Vec<u32>, ViewFault> {
+pub fn ids_in(rt: &HostRuntime, folder: &str) -> Result<Vec<u32>, ViewFault> {
     let mut ids = Vec::new(rt.alloc());
     let entries = match fs::read_dir(rt, folder) {
         Ok(entries) => entries,
@@ -119,7 +119,7 @@ fn tell_flaws(rt: &impl Eprint, folder: &str, rows: &Rows, end: Option<Lsn>) -> 
 
 /// The header of the copy of this id, and how many bytes its file has. Where the file has no
 /// header, or that of another copy, this is told.
-fn header_of(
+pub fn header_of(
     rt: &HostRuntime,
     folder: &str,
     id: u32,
@@ -186,7 +186,7 @@ fn header_at(rt: &HostRuntime, name: &str, notes: &Notes) -> Result<CopyHeader, 
 }
 
 /// Writes the lines, and says whether all went out.
-fn written(rt: &HostRuntime, text: &str) -> bool {
+pub fn written(rt: &HostRuntime, text: &str) -> bool {
     let output = Notes::new();
     match write_out(
         &mut noted(patient(rt, io::writer(rt)), &output),

@@ -26,6 +26,7 @@ mod restores;
 mod saving;
 mod strict;
 mod untils;
+mod verify;
 mod view;
 
 use advice::{tell_script, tell_unread, tell_unwritten};
@@ -34,7 +35,7 @@ use audits::audit;
 use command_words::{Command, command_of, words_of};
 use event_script::MAX_SCRIPT_BYTES;
 use file_view::{Form, Wanted};
-use folder_commands::{backup, renew, verify};
+use folder_commands::{backup, renew};
 use list::list;
 use open_database::{BackupCall, OpenCall, OpenEnd, open_folder};
 use output::{Inputs, Limits, tell_output};
@@ -58,7 +59,17 @@ use std::{fmt, io};
 use strict::{Kept, Refusals, Tallied, line_of_call};
 use system_files::{EscapedText, Noted, Notes, Patient};
 use untils::{redo_until_into, redo_until_out};
+use verify::verify;
 use view::show;
+
+/// What is told where `redo` may replace a file, and names none.
+const LACKS_OUTPUT: &str = "\
+error: --force needs the argument:
+  --output <FILE>
+
+Usage: imgcopy redo [OPTIONS] < LOG
+
+For more information, try '--help'.";
 
 /// How many bytes of a script are kept at most, to show a bad line.
 const MOST_KEPT: usize = 65_536;
@@ -77,6 +88,10 @@ fn main(rt: HostRuntime) -> ExitCode {
                 until,
             },
         ) => match (output, lsn_of(until)) {
+            (None, _) if force => {
+                let _ = eprintln!(rt; "{LACKS_OUTPUT}");
+                ExitCode::from(FAULT_STATUS)
+            }
             (None, None) => redo(&rt),
             (Some(path), None) => redo_into(&rt, path, force),
             (None, Some(until)) => redo_until_out(&rt, until),

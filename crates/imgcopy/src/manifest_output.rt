@@ -7,7 +7,8 @@ use copy_coverage::Retired;
 use manifest::DatabaseName;
 use page_core::FaultName;
 use saved_files::put_and_store;
-use std::io::Read;
+use std::alloc::AllocError;
+use std::io::{ErrorKind, Read};
 use std::path::Path;
 use std::{fs, io};
 use system_files::{Notes, SystemFolder};
@@ -15,12 +16,15 @@ use system_files::{Notes, SystemFolder};
 /// Where the system gives random bytes.
 const RANDOM: &str = "/dev/urandom";
 
-/// Whether a folder has a manifest, be it an empty file that is to become one.
-pub fn has_manifest(rt: &HostRuntime, folder: &str) -> bool {
-    let Ok(place) = Path::new(folder).join(rt.alloc(), MANIFEST) else {
-        return true;
-    };
-    !matches!(fs::exists(rt, place.as_path()), Ok(false))
+/// Whether a folder has a manifest, be it an empty file that is to become one. Of what cannot be
+/// looked at it is said that it has.
+pub fn has_manifest(rt: &HostRuntime, folder: &str) -> Result<bool, AllocError> {
+    let place = Path::new(folder).join(rt.alloc(), MANIFEST)?;
+    match fs::exists(rt, place.as_path()) {
+        Ok(is_there) => Ok(is_there),
+        Err(error) if error.kind() == ErrorKind::OutOfMemory => Err(AllocError),
+        Err(_) => Ok(true),
+    }
 }
 
 /// Puts the manifest in place of the files that were saved in a folder, and says whether that went

@@ -164,6 +164,14 @@ fn has_grown(rt: &HostRuntime, manifest: &Manifest, folder: &str) -> Result<bool
     }
 }
 
+/// The manifest of a folder, if one stands there. None where it is refused, which is told.
+pub fn manifest_in(rt: &HostRuntime, folder: &str) -> Result<Option<Option<Manifest>>, AllocError> {
+    match read_beside(rt, folder)? {
+        Some(beside) => Ok(Some(beside.manifest)),
+        None => Ok(None),
+    }
+}
+
 /// The manifest that stands in a folder. None where it is refused, which is told.
 fn read_beside<'a>(rt: &HostRuntime, folder: &'a str) -> Result<Option<Beside<'a>>, AllocError> {
     let place = format!(in rt.alloc(); "{folder}/{MANIFEST}")?;

@@ -54,12 +54,16 @@ impl Saving<'_> {
         if !self.force && tells_kept(rt, folder) {
             return false;
         }
+        let Ok(has_manifest) = has_manifest(rt, folder) else {
+            let _ = eprintln!(rt; "{}", FaultName::OutOfMemory);
+            return false;
+        };
         if let Err(fault) = save_files(&mut there, rt.alloc(), retired) {
             let _ = rt.eprintln(&fault);
             tell_unsaved(rt, &there, folder, &fault, retired, &notes);
             return false;
         }
-        if has_manifest(rt, folder) && !put_manifest(rt, &mut there, folder, &notes, retired) {
+        if has_manifest && !put_manifest(rt, &mut there, folder, &notes, retired) {
             return false;
         }
         tell_stale(rt, rt.alloc(), folder, retired);

@@ -283,7 +283,7 @@ fn point_of(answer: &Answer) -> Option<UnplacedPoint>
 }
 
 /// The id of the new copy that is answered, if one is.
-fn copied_id(reply: &Reply) -> Option<u32>
+pub(crate) fn copied_id(reply: &Reply) -> Option<u32>
     ensures found { IfSome result (λ id. reply.now ≡ Ok (Copied id)) }
     ensures none { result ≡ None → (id : ℕ) → reply.now ≢ Ok (Copied id) }
 {

@@ -1,9 +1,10 @@
 //! A copy of all pages, which is made at once.
 
+use crate::made_files::copied_id;
 use crate::place::Place;
 use crate::said::Said;
 use crate::session::{Session, TellsWhy};
-use aries_core::{Answer, Event, Refusal};
+use aries_core::{Event, Refusal};
 use copy_vault::{CopyId, Vault};
 use image_copies::MAX_COPIES;
 use log_store::LogDevice;
@@ -23,9 +24,9 @@ impl<F: Folder, S: PageStore, D: LogDevice + TellsWhy> Session<'_, F, S, D> {
             Some(parent) => self.begin_increment(parent),
             None => self.begin_copy(None),
         };
-        match begun {
-            Said::Reply(Ok(Answer::Copied(id))) => self.filled_copy(id.0),
-            refused => refused,
+        match id_of(&begun) {
+            Some(id) => self.filled_copy(id),
+            None => begun,
         }
     }
 
@@ -93,6 +94,14 @@ impl<F: Folder, S: PageStore, D: LogDevice + TellsWhy> Session<'_, F, S, D> {
             Said::Reply(Ok(_)) => Ok(()),
             refused => Err(refused),
         }
+    }
+}
+
+/// The id of the copy that was begun, if one was.
+fn id_of(said: &Said) -> Option<u32> {
+    match said {
+        Said::Reply(reply) => copied_id(reply),
+        Said::Unplaced(_) => None,
     }
 }
 
