@@ -1,4 +1,6 @@
 mod CopyCalls
+mod CutLives
+mod PowerCuts
 mod Reopened
 mod Runs
 mod Served

@@ -9,6 +9,7 @@ pub mod Master
 pub mod MovedAside
 pub mod Opened
 pub mod Pending
+pub mod PowerCuts
 pub mod Said
 pub mod Session
 pub mod Words

@@ -34,6 +34,7 @@ mod order;
 mod page_writes;
 mod pending;
 mod place;
+mod power_laws;
 mod prompt;
 mod renew;
 mod restarted;
@@ -55,4 +56,5 @@ mod words;
 
 pub use backup::{BackupCall, backup_folder};
 pub use open::{OpenCall, OpenEnd, open_folder};
+pub use power_laws::{cut_lives_follow_one_another, power_cuts_lose_no_commit};
 pub use renew::{RenewCall, renew_folder};
