@@ -14,9 +14,9 @@ use Rattle.engine_rules.specs.Run.{Run}
 use Rattle.engine_restart.specs.Lives.{GoesOnFrom, Life}
 use Rattle.engine_restart.specs.Restart.{undone_log}
 
--- a crash at this moment may leave a content of a log's disk as whose front this log is read. What the
--- disk gave when it was opened was right, or was stored again since. That as many bytes were synced as
--- the device counts is so of each `FileLog`, by its invariant
+-- a crash at this moment may leave a content of a log's disk of which this log is the longest front.
+-- What the disk gave when it was opened was right, or was stored again since; and as many bytes were
+-- synced as the device counts, which the invariant of a `FileLog` says of it
 pub record MayBeRead {D : Type 0} (may_leave : D → List ℕ → Type 0) (is_clean : D → Bool)
     (device : LogOnDisk D) (log : Log) : Type 0 where
   pub trusted : IsTrusted is_clean device
