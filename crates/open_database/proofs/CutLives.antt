@@ -1,5 +1,5 @@
 -- What holds of lives that follow one another, each of which ends with a loss of power.
-use Rattle.std.proofs.Common.{◌≡◌, ◌<◌, ◌++◌, ℕ, List, [], ◌∷◌, length, get_or, sym, ap, subst, append_assoc}
+use Rattle.std.proofs.Common.{◌<◌, ◌++◌, List, [], ◌∷◌, length, get_or, sym, subst, append_assoc}
 use Rattle.std.proofs.Common.{arith}
 use Rattle.std.specs.List.{All}
 use Rattle.std.proofs.lemmas.List.Elements.{All-append, All-nil}
