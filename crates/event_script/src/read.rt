@@ -86,9 +86,14 @@ pub fn read_script<R: Read>(alloc: Global, reader: &mut R) -> Result<Script, Scr
     // Where the reader failed, what it gave until then is not too long.
     ensures unread { IfErr result (GaveNoFault (R.remaining reader.old) (R.remaining reader.new)) }
 {
-    let input = read_input(alloc, reader)?;
+    let mut input = read_input(alloc, reader)?;
     if str::from_utf8(&input).is_err() {
         return Err(ScriptFault::Input);
     }
-    script_in(alloc, &input)
+    let read = script_in(alloc, &input);
+    // After a large block is freed, the C library's heap holds blocks of that size, and copies them
+    // to new pages as they grow. So the input is small when it is freed.
+    input.clear();
+    input.shrink_to(1);
+    read
 }
