@@ -2,14 +2,14 @@
 //!
 //! Each function takes a record, and gives `None` if it may not come next. After that no more is to be taken.
 
-use crate::claims::{place, Claims, Held};
-use crate::MOST_OPEN;
+use crate::volume::{Held, Place, Volume};
+use crate::{HEADER_SIZE, LONGEST_LOG, MOST_OPEN, MOST_RECORDS};
 
 /// In the place of the seat of a transaction that is not open any more.
 const NO_SEAT: u8 = MOST_OPEN as u8;
 
 /// A Set keeps out more than an Add does, and is the greater one.
-#[derive(Clone, Copy, PartialEq)]
+#[derive(Clone, Copy, Debug, PartialEq)]
 #[repr(u8)]
 pub enum ChangeKind {
     Add = 0x40,
@@ -32,10 +32,12 @@ pub struct Seat(u8);
 #[derive(Default)]
 pub struct Transaction {
     number: u32,
-    first_lsn: u64,
-    last_lsn: u64,
+    first_lsn: u32,
+    last_lsn: u32,
     is_rolling: bool,
     pub pending: Vec<Pending>,
+    /// The PrevLSNs of those pending changes that do not follow on the pending change before them.
+    jumps: Vec<u32>,
 }
 
 impl Transaction {
@@ -43,15 +45,63 @@ impl Transaction {
     pub fn owed(&self) -> usize {
         self.pending.len() + if self.is_rolling { 1 } else { 2 }
     }
+
+    /// The LSN of the last pending change, or of the Begin.
+    #[inline]
+    fn undo_next(&self) -> u32 {
+        self.pending
+            .last()
+            .map_or(self.first_lsn, |pending| pending.lsn)
+    }
 }
 
-/// An Update that no Comp has taken back.
+/// A change that no Comp has taken back, in sixteen bytes. Its PrevLSN is that of the pending change before it, or of the
+/// Begin, but where records between them were taken back.
+#[derive(Clone, Copy)]
 pub struct Pending {
-    /// The change that takes it back.
-    pub undo: Change,
+    /// That of the change that takes it back.
+    number: u64,
     pub lsn: u32,
-    previous: u32,
-    held: Held,
+    /// The place, above it whether the change is a Set, and whether the PrevLSN is another one, and how the slot was held.
+    what: u32,
+}
+
+const SET_BIT: u32 = 1 << Place::BITS;
+const JUMP: u32 = SET_BIT << 1;
+const PLACE_BITS: u32 = SET_BIT - 1;
+const HELD_SHIFT: u32 = 24;
+const _: () = assert!(JUMP < (!Held::BITS as u32 + 1) << HELD_SHIFT);
+
+#[inline]
+fn what_of(place: Place, kind: ChangeKind) -> u32 {
+    let is_set = kind == ChangeKind::Set;
+    place.bits() | u32::from(is_set) << Place::BITS
+}
+
+impl Pending {
+    #[inline]
+    fn place(&self) -> Place {
+        Place::from_bits(self.what & PLACE_BITS)
+    }
+
+    #[inline]
+    fn held(&self) -> Held {
+        Held::from_bits((self.what >> HELD_SHIFT) as u8)
+    }
+
+    /// The change that takes it back.
+    pub fn undo(&self) -> Change {
+        Change {
+            page: self.place().page(),
+            slot: self.place().slot(),
+            kind: if self.what & SET_BIT != 0 {
+                ChangeKind::Set
+            } else {
+                ChangeKind::Add
+            },
+            number: self.number,
+        }
+    }
 }
 
 pub struct Chains {
@@ -61,28 +111,17 @@ pub struct Chains {
     open: [Transaction; MOST_OPEN],
     /// A bit for each seat that no transaction has.
     free_seats: u64,
-    claims: Claims,
 }
 
+const _: () = assert!(LONGEST_LOG <= u32::MAX as usize && HEADER_SIZE > 0);
+
 impl Chains {
-    pub fn new(pages: usize) -> Chains {
+    pub fn new() -> Chains {
         Chains {
-            seats: Vec::new(),
+            seats: Vec::with_capacity(MOST_RECORDS),
             open: std::array::from_fn(|_| Transaction::default()),
             free_seats: u64::MAX,
-            claims: Claims::new(pages),
         }
-    }
-
-    /// The volume has so many pages from now on.
-    pub fn grow(&mut self, pages: usize) {
-        self.claims.grow(pages);
-    }
-
-    /// A byte that says who holds a slot, so that it comes from memory; 0 where there is no such slot.
-    #[inline]
-    pub fn claim(&self, page: u16, slot: u8) -> u8 {
-        self.claims.byte(place(page, slot))
     }
 
     pub fn begin(&mut self, transaction: u32, lsn: u64) -> Option<()> {
@@ -94,8 +133,8 @@ impl Chains {
         self.seats.push(seat);
         let opened = &mut self.open[usize::from(seat)];
         opened.number = transaction;
-        opened.first_lsn = lsn;
-        opened.last_lsn = lsn;
+        opened.first_lsn = lsn as u32;
+        opened.last_lsn = lsn as u32;
         opened.is_rolling = false;
         Some(())
     }
@@ -105,14 +144,14 @@ impl Chains {
     pub fn go_on(&mut self, transaction: u32, previous: u64, lsn: u64) -> Option<Seat> {
         let seat = *self.seats.get(transaction as usize - 1)?;
         let open = self.open.get_mut(usize::from(seat))?;
-        if open.last_lsn != previous {
+        if u64::from(open.last_lsn) != previous {
             return None;
         }
-        open.last_lsn = lsn;
+        open.last_lsn = lsn as u32;
         Some(Seat(seat))
     }
 
-    /// Takes an Update, whose Set has the number `before` that its slot has.
+    /// Takes an Update, and makes its change. A Set has the number `before` that its slot has.
     #[inline]
     pub fn update(
         &mut self,
@@ -120,32 +159,61 @@ impl Chains {
         previous: u64,
         change: &Change,
         before: u64,
+        volume: &mut Volume,
     ) -> Option<()> {
-        let place = place(change.page, change.slot);
-        let held = self.claims.take(place, seat.0, change.kind)?;
-        let number = match change.kind {
-            ChangeKind::Set => before,
-            ChangeKind::Add => change.number.wrapping_neg(),
-        };
+        let Change {
+            page,
+            slot,
+            kind,
+            number,
+        } = *change;
+        let place = Place::of(page, slot);
+        let held = volume.claim(place, seat.0, kind)?;
         let open = &mut self.open[usize::from(seat.0)];
+        let replaced = volume.put(page, place, kind, number, u64::from(open.last_lsn));
+        let (undo, is_right) = match kind {
+            ChangeKind::Set => (before, replaced == before),
+            ChangeKind::Add => (number.wrapping_neg(), true),
+        };
+        let is_jump = u64::from(open.undo_next()) != previous;
+        if is_jump {
+            open.jumps.push(previous as u32);
+        }
         open.pending.push(Pending {
-            undo: Change { number, ..*change },
-            lsn: open.last_lsn as u32,
-            previous: previous as u32,
-            held,
+            number: undo,
+            lsn: open.last_lsn,
+            what: what_of(place, kind)
+                | u32::from(held.bits()) << HELD_SHIFT
+                | if is_jump { JUMP } else { 0 },
         });
-        (!open.is_rolling).then_some(())
+        (is_right && !open.is_rolling).then_some(())
     }
 
+    /// Takes a Comp, and makes its change.
     #[inline]
-    pub fn compensate(&mut self, seat: Seat, change: &Change, undo_next: u64) -> Option<()> {
+    pub fn compensate(
+        &mut self,
+        seat: Seat,
+        change: &Change,
+        undo_next: u64,
+        volume: &mut Volume,
+    ) -> Option<()> {
         let open = &mut self.open[usize::from(seat.0)];
         let pending = open.pending.pop()?;
-        if *change != pending.undo || undo_next != u64::from(pending.previous) {
+        let previous = if pending.what & JUMP != 0 {
+            open.jumps.pop()?
+        } else {
+            open.undo_next()
+        };
+        let place = Place::of(change.page, change.slot);
+        let is_place = what_of(place, change.kind) == pending.what & (PLACE_BITS | SET_BIT);
+        let is_undo = is_place && change.number == pending.number;
+        if !is_undo || undo_next != u64::from(previous) {
             return None;
         }
-        let place = place(change.page, change.slot);
-        self.claims.release(place, seat.0, pending.held);
+        let lsn = u64::from(open.last_lsn);
+        volume.put(change.page, place, change.kind, change.number, lsn);
+        volume.release(place, seat.0, pending.held());
         Some(())
     }
 
@@ -155,15 +223,15 @@ impl Chains {
         (!was_rolling).then_some(())
     }
 
-    pub fn commit(&mut self, transaction: u32, seat: Seat) -> Option<()> {
+    pub fn commit(&mut self, transaction: u32, seat: Seat, volume: &mut Volume) -> Option<()> {
         let open = &mut self.open[usize::from(seat.0)];
         if open.is_rolling {
             return None;
         }
         for pending in open.pending.drain(..).rev() {
-            let place = place(pending.undo.page, pending.undo.slot);
-            self.claims.release(place, seat.0, pending.held);
+            volume.release(pending.place(), seat.0, pending.held());
         }
+        open.jumps.clear();
         self.close(transaction, seat);
         Some(())
     }
@@ -180,15 +248,17 @@ impl Chains {
     pub fn now(&self, transaction: u32) -> Option<(bool, u64, u64)> {
         let seat = *self.seats.get(transaction as usize - 1)?;
         let open = self.open.get(usize::from(seat))?;
-        let pending = open.pending.last();
-        let undo_next = pending.map_or(open.first_lsn, |pending| u64::from(pending.lsn));
-        Some((open.is_rolling, open.last_lsn, undo_next))
+        Some((
+            open.is_rolling,
+            u64::from(open.last_lsn),
+            u64::from(open.undo_next()),
+        ))
     }
 
     /// The open transactions that began before an LSN.
     pub fn began_before(&self, lsn: u64) -> impl Iterator<Item = u32> + '_ {
         let open = self.open_transactions();
-        open.filter(move |open| open.first_lsn < lsn)
+        open.filter(move |open| u64::from(open.first_lsn) < lsn)
             .map(|open| open.number)
     }
 
@@ -200,5 +270,11 @@ impl Chains {
     fn close(&mut self, transaction: u32, seat: Seat) {
         self.seats[transaction as usize - 1] = NO_SEAT;
         self.free_seats |= 1 << seat.0;
+    }
+}
+
+impl Default for Chains {
+    fn default() -> Chains {
+        Chains::new()
     }
 }

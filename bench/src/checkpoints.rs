@@ -1,10 +1,9 @@
 //! The records of checkpoints, and by which of them an open checkpoint may go on.
 
 use crate::chains::Chains;
-use crate::{BEGIN_CHKPT, CHKPT_PAGES, CHKPT_TXNS, END_CHKPT, HEADER_SIZE, RECORD_SIZE};
-
-/// In the place of the page of a record that changes none.
-const NO_PAGE: u32 = u32::MAX;
+use crate::{
+    BEGIN_CHKPT, CHKPT_PAGES, CHKPT_TXNS, END_CHKPT, HEADER_SIZE, MOST_RECORDS, RECORD_SIZE,
+};
 
 /// A record of a checkpoint, with the LSN of its BeginChkpt.
 pub struct Record {
@@ -46,11 +45,14 @@ struct Open {
     transactions: Vec<u32>,
 }
 
-#[derive(Default)]
 pub struct Checkpoints {
-    /// The page that each record changes.
-    changed: Vec<u32>,
+    /// By record: one more than the page that it changes, in two bytes. 0 where it changes none, or the last page.
+    changed: Vec<u16>,
+    /// The LSNs of the records that change the last page that there may be.
+    of_last_page: Vec<u32>,
     open: Option<Open>,
+    /// The begin and the end of each complete checkpoint.
+    complete: Vec<(u32, u32)>,
 }
 
 /// The record of a checkpoint, if these bytes are one at this LSN in a volume of this many pages.
@@ -119,19 +121,40 @@ pub fn read(bytes: &[u8], lsn: u64, page_count: u32) -> Option<Record> {
 }
 
 impl Checkpoints {
-    /// Notes the page that the next record changes.
+    pub fn new() -> Checkpoints {
+        Checkpoints {
+            changed: vec![0; MOST_RECORDS],
+            of_last_page: Vec::new(),
+            open: None,
+            complete: Vec::new(),
+        }
+    }
+
+    /// Notes that the record at this LSN changes a page.
     #[inline]
-    pub fn note(&mut self, page: Option<u16>) {
-        self.changed.push(page.map_or(NO_PAGE, u32::from));
+    pub fn note(&mut self, lsn: u64, page: u16) {
+        self.changed[index_of(lsn)] = page.wrapping_add(1);
+        if page == u16::MAX {
+            self.of_last_page.push(lsn as u32);
+        }
+    }
+
+    /// Whether the checkpoint with this BeginChkpt and this EndChkpt is complete.
+    pub fn is_complete(&self, begin: u64, end: u64) -> bool {
+        let mut ends = self.complete.iter();
+        ends.any(|(first, last)| (u64::from(*first), u64::from(*last)) == (begin, end))
     }
 
     /// Takes a record of a checkpoint at this LSN, or gives `None` if it may not come next.
     pub fn take(&mut self, record: &Record, lsn: u64, chains: &Chains) -> Option<()> {
-        self.note(None);
         if let Step::Begin = record.step {
             return self.begin(lsn);
         }
-        let changed = &self.changed;
+        let (changed, of_last_page) = (&self.changed, &self.of_last_page);
+        let is_of = |page: u32, lsn: u64| match changed[index_of(lsn)] {
+            0 => page == u32::from(u16::MAX) && of_last_page.binary_search(&(lsn as u32)).is_ok(),
+            number => page + 1 == u32::from(number),
+        };
         let open = self
             .open
             .as_mut()
@@ -140,8 +163,7 @@ impl Checkpoints {
             Step::Begin => unreachable!("a BeginChkpt was taken above"),
             Step::Pages(entries) => {
                 for (page, rec_lsn) in entries.all() {
-                    let index = *rec_lsn as usize / RECORD_SIZE - 1;
-                    if changed.get(index) != Some(page) || open.last_page >= Some(*page) {
+                    if !is_of(*page, *rec_lsn) || open.last_page >= Some(*page) {
                         return None;
                     }
                     open.last_page = Some(*page);
@@ -166,6 +188,7 @@ impl Checkpoints {
                     .began_before(open.begin)
                     .all(|transaction| open.transactions.binary_search(&transaction).is_ok());
                 let is_right = *redo == open.redo && is_complete;
+                self.complete.push((open.begin as u32, lsn as u32));
                 self.open = None;
                 is_right.then_some(())
             }
@@ -183,6 +206,18 @@ impl Checkpoints {
         });
         Some(())
     }
+}
+
+impl Default for Checkpoints {
+    fn default() -> Checkpoints {
+        Checkpoints::new()
+    }
+}
+
+/// The number of the record at this LSN, from 0 on.
+#[inline]
+fn index_of(lsn: u64) -> usize {
+    lsn as usize / RECORD_SIZE - 1
 }
 
 fn u32_at(bytes: &[u8], at: usize) -> u32 {

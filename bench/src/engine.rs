@@ -1,25 +1,25 @@
 //! An engine that answers each call of a script as `imgcopy run` does, in plain Rust.
 //!
-//! The log, the device that it is forced to and the stored pages are in memory, as there.
+//! The log and the stored pages are in memory, as there. Of the device that the log is forced to, it is known how much it
+//! has: nothing reads it.
 
 use crate::chains::ChangeKind;
-use crate::claims::{place, Claims, Held};
 use crate::copies::{Copies, Source};
 use crate::frames::Frames;
 use crate::records::Record;
 use crate::replies::{Answer, Refusal, Reply};
+use crate::store::{Store, Version};
+use crate::volume::{Held, Place, Volume};
 use crate::{
-    formatted_volume, grow_volume, Page, ABORT, BEGIN, BEGIN_CHKPT, CHKPT_PAGES, CHKPT_TXNS,
-    COMMIT, COMP, END, END_CHKPT, EXTEND, FIRST_SLOT, HEADER_SIZE, MAGIC, MOST_OPEN, MOST_PAGES,
-    MOST_RECORDS, RECORD_SIZE, SLOTS, UPDATE,
+    ABORT, BEGIN, BEGIN_CHKPT, CHKPT_PAGES, CHKPT_TXNS, COMMIT, COMP, END, END_CHKPT, EXTEND,
+    HEADER_SIZE, MAGIC, MOST_OPEN, MOST_PAGES, MOST_RECORDS, RECORD_SIZE, SLOTS, UPDATE,
 };
-use std::collections::HashMap;
 
 /// In the place of the seat of a transaction that is not open any more.
 const NO_SEAT: u8 = MOST_OPEN as u8;
 
 /// In the place of the RecLSN of a clean page, and of the LSN of a change that has not come.
-const NONE: u64 = 0;
+const NONE: u32 = 0;
 
 #[derive(Default)]
 struct Transaction {
@@ -32,12 +32,11 @@ struct Transaction {
 
 /// A change that is not taken back, by what takes it back.
 struct Pending {
-    page: u32,
-    slot: u8,
-    kind: ChangeKind,
     undo: u64,
-    lsn: u64,
-    previous: u64,
+    lsn: u32,
+    previous: u32,
+    place: Place,
+    kind: ChangeKind,
     held: Held,
 }
 
@@ -67,21 +66,23 @@ pub struct Master {
 
 pub struct Engine {
     pub log: Vec<u8>,
-    device: Vec<u8>,
-    pages: Vec<Page>,
-    stored: Vec<Page>,
+    /// How much of the log is on the device.
+    forced: u64,
+    page_count: u32,
+    volume: Volume,
+    store: Store,
     /// By page, `NONE` where it is clean.
-    rec_lsns: Vec<u64>,
+    rec_lsns: Vec<u32>,
     /// By page: the first change after the image of its write in progress.
-    after_image: Vec<u64>,
-    images: HashMap<u32, Page>,
+    after_image: Vec<u32>,
+    /// By page: the image of its write in progress.
+    images: Vec<Version>,
     frames: Frames,
     /// The seat of each transaction that began, from transaction 1 on.
     seats: Vec<u8>,
     open: [Transaction; MOST_OPEN],
     /// A bit for each seat that no transaction has.
     free_seats: u64,
-    claims: Claims,
     /// How many records the open transactions may still need.
     owed: usize,
     checkpoint: Option<Checkpoint>,
@@ -95,19 +96,20 @@ impl Engine {
         let mut header = [0; HEADER_SIZE];
         header[0..8].copy_from_slice(MAGIC);
         header[8..12].copy_from_slice(&page_count.to_le_bytes());
+        let most = MOST_PAGES as usize;
         Engine {
             log: header.to_vec(),
-            device: header.to_vec(),
-            pages: formatted_volume(page_count),
-            stored: formatted_volume(page_count),
-            rec_lsns: vec![NONE; page_count as usize],
-            after_image: vec![NONE; page_count as usize],
-            images: HashMap::new(),
-            frames: Frames::new(page_count, frames),
+            forced: HEADER_SIZE as u64,
+            page_count,
+            volume: Volume::untouched(),
+            store: Store::new(),
+            rec_lsns: vec![NONE; most],
+            after_image: vec![NONE; most],
+            images: vec![Version::NONE; most],
+            frames: Frames::new(frames),
             seats: Vec::new(),
             open: std::array::from_fn(|_| Transaction::default()),
             free_seats: u64::MAX,
-            claims: Claims::new(page_count as usize),
             owed: 0,
             checkpoint: None,
             master: None,
@@ -143,37 +145,45 @@ impl Engine {
         number: u64,
     ) -> Answer {
         let seat = self.active(transaction)?;
-        let slot = self.slot(page, slot)?;
-        let held = self.claim(seat, page, slot, kind)?;
-        let before = self.number(page, slot);
+        let place = self.place(page, slot)?;
+        let held = self.claim(seat, page, place, kind)?;
         let previous = self.open[usize::from(seat)].last;
+        let lsn = self.log.len() as u64;
+        let before = self.put(page, place, kind, number, lsn);
         let (shown, undo) = match kind {
             ChangeKind::Set => (before, before),
             ChangeKind::Add => (0, number.wrapping_neg()),
         };
         let mut record = Record::new(UPDATE, transaction, previous);
         record.put_change(page, slot, kind, shown, number);
-        let lsn = self.append(record);
+        self.append(record);
         self.owed += 1;
-        self.put(page, slot, kind, number, lsn);
         let open = &mut self.open[usize::from(seat)];
         open.last = lsn;
         open.pending.push(Pending {
-            page,
-            slot,
-            kind,
             undo,
-            lsn,
-            previous,
+            lsn: lsn as u32,
+            previous: previous as u32,
+            place,
+            kind,
             held,
         });
         Ok(Reply::Lsn(lsn))
     }
 
     pub fn read(&mut self, page: u32, slot: u16) -> Answer {
-        let slot = self.slot(page, slot)?;
+        let place = self.place(page, slot)?;
         self.frames.need(page)?;
-        Ok(Reply::Value(self.number(page, slot)))
+        Ok(Reply::Value(self.volume.number_on(page as u16, place)))
+    }
+
+    /// Looks at a slot, so that it comes from memory.
+    pub fn look(&self, page: u32, slot: u16) -> u8 {
+        if page < self.page_count && self.volume.lsn(page as u16) != 0 {
+            self.volume.look(page, slot as u8)
+        } else {
+            0
+        }
     }
 
     pub fn commit(&mut self, transaction: u32) -> Answer {
@@ -182,8 +192,7 @@ impl Engine {
         let mut pending = std::mem::take(&mut self.open[usize::from(seat)].pending);
         self.owed -= pending.len() + 2;
         for change in pending.drain(..).rev() {
-            let place = place(change.page as u16, change.slot);
-            self.claims.release(place, seat, change.held);
+            self.volume.release(change.place, seat, change.held);
         }
         self.close(seat, pending);
         self.force_to(lsn);
@@ -207,7 +216,7 @@ impl Engine {
             return Err(Refusal::NotRolling);
         }
         if let Some(change) = open.pending.last() {
-            self.frames.need(change.page)?;
+            self.frames.need(u32::from(change.place.page()))?;
         }
         self.owed -= 1;
         let Some(change) = open.pending.pop() else {
@@ -215,30 +224,25 @@ impl Engine {
             self.close(seat, Vec::new());
             return Ok(Reply::Ended(lsn));
         };
+        let (page, slot) = (u32::from(change.place.page()), change.place.slot());
         let mut record = self.chained(COMP, seat);
-        record.put(16, &change.previous.to_le_bytes());
-        record.put_change(change.page, change.slot, change.kind, 0, change.undo);
+        record.put_undo_next(u64::from(change.previous));
+        record.put_change(page, u16::from(slot), change.kind, 0, change.undo);
         let lsn = self.append(record);
         self.open[usize::from(seat)].last = lsn;
-        self.put(change.page, change.slot, change.kind, change.undo, lsn);
-        let place = place(change.page as u16, change.slot);
-        self.claims.release(place, seat, change.held);
+        self.put(page, change.place, change.kind, change.undo, lsn);
+        self.volume.release(change.place, seat, change.held);
         Ok(Reply::Undid(lsn))
     }
 
     /// The volume grows.
     pub fn extend(&mut self, page_count: u32) -> Answer {
-        let present = self.pages.len() as u32;
+        let present = self.page_count;
         if page_count <= present || page_count > MOST_PAGES {
             return Err(Refusal::NotLarger(present));
         }
         self.need_room(1)?;
-        grow_volume(&mut self.stored, page_count);
-        grow_volume(&mut self.pages, page_count);
-        self.rec_lsns.resize(page_count as usize, NONE);
-        self.after_image.resize(page_count as usize, NONE);
-        self.frames.grow(page_count);
-        self.claims.grow(page_count as usize);
+        self.page_count = page_count;
         let mut record = Record::new(EXTEND, 0, 0);
         record.put(24, &page_count.to_le_bytes());
         Ok(Reply::Lsn(self.append(record)))
@@ -251,29 +255,32 @@ impl Engine {
 
     pub fn write_begin(&mut self, page: u32) -> Answer {
         self.need_page(page)?;
-        if self.images.contains_key(&page) {
+        let page = page as usize;
+        if self.images[page] != Version::NONE {
             return Err(Refusal::WriteBegun);
         }
-        if self.rec_lsns[page as usize] == NONE {
+        if self.rec_lsns[page] == NONE {
             return Err(Refusal::NotDirty);
         }
-        let image = self.pages[page as usize];
-        let lsn = lsn_of(&image);
+        let lsn = self.volume.lsn(page as u16);
         self.force_to(lsn);
-        self.after_image[page as usize] = NONE;
-        self.images.insert(page, image);
+        self.after_image[page] = NONE;
+        self.images[page] = self.store.image(&self.volume, page as u16);
         Ok(Reply::Writing(lsn))
     }
 
     pub fn write_end(&mut self, page: u32) -> Answer {
         self.need_page(page)?;
-        let image = self.images.remove(&page).ok_or(Refusal::NoWrite)?;
-        self.stored[page as usize] = image;
+        let image = std::mem::replace(&mut self.images[page as usize], Version::NONE);
+        if image == Version::NONE {
+            return Err(Refusal::NoWrite);
+        }
+        self.store.put(page, image);
         self.rec_lsns[page as usize] = self.after_image[page as usize];
         if self.rec_lsns[page as usize] == NONE {
             self.frames.note_clean(page);
         }
-        Ok(Reply::Written(lsn_of(&image)))
+        Ok(Reply::Written(self.store.lsn(image)))
     }
 
     pub fn checkpoint_begin(&mut self) -> Answer {
@@ -284,7 +291,7 @@ impl Engine {
         let begin = self.append(Record::new(BEGIN_CHKPT, 0, 0));
         self.checkpoint = Some(Checkpoint {
             begin,
-            page_count: self.pages.len() as u32,
+            page_count: self.page_count,
             redo: begin,
             gather: Gather::PagesFrom(0),
         });
@@ -307,24 +314,23 @@ impl Engine {
     }
 
     fn gather_pages(&mut self, checkpoint: &mut Checkpoint, cursor: u32) -> Answer {
-        let dirty = (cursor..).zip(&self.rec_lsns[cursor as usize..]);
-        let entries: Vec<(u32, u64)> = dirty
-            .filter(|(_, rec_lsn)| **rec_lsn != NONE)
-            .map(|(page, rec_lsn)| (page, *rec_lsn))
-            .take(3)
-            .collect();
-        let Some((last, _)) = entries.last() else {
+        let dirty = (cursor..self.page_count).zip(&self.rec_lsns[cursor as usize..]);
+        let mut entries = dirty.filter(|(_, rec_lsn)| **rec_lsn != NONE).take(3);
+        let mut record = Record::new(CHKPT_PAGES, 0, checkpoint.begin);
+        let (mut count, mut last, mut redo) = (0, cursor, checkpoint.redo);
+        for (page, rec_lsn) in &mut entries {
+            record.put(20 + 12 * count, &page.to_le_bytes());
+            record.put(24 + 12 * count, &u64::from(*rec_lsn).to_le_bytes());
+            redo = redo.min(u64::from(*rec_lsn));
+            (count, last) = (count + 1, page);
+        }
+        if count == 0 {
             checkpoint.gather = Gather::TransactionsPast(0);
             return Ok(Reply::More);
-        };
-        self.need_room(1)?;
-        let mut record = Record::new(CHKPT_PAGES, 0, checkpoint.begin);
-        record.put(16, &(entries.len() as u32).to_le_bytes());
-        for (index, (page, rec_lsn)) in entries.iter().enumerate() {
-            record.put(20 + 12 * index, &page.to_le_bytes());
-            record.put(24 + 12 * index, &rec_lsn.to_le_bytes());
-            checkpoint.redo = checkpoint.redo.min(*rec_lsn);
         }
+        self.need_room(1)?;
+        checkpoint.redo = redo;
+        record.put(16, &(count as u32).to_le_bytes());
         self.append(record);
         checkpoint.gather = Gather::PagesFrom(last + 1);
         Ok(Reply::More)
@@ -337,7 +343,8 @@ impl Engine {
             return Ok(Reply::Done);
         };
         self.need_room(1)?;
-        let undo_next = open.pending.last().map_or(open.first, |change| change.lsn);
+        let pending = open.pending.last();
+        let undo_next = pending.map_or(open.first, |change| u64::from(change.lsn));
         let mut record = Record::new(CHKPT_TXNS, 0, checkpoint.begin);
         record.put(20, &open.number.to_le_bytes());
         record.put(24, &(1 + u32::from(open.is_aborted)).to_le_bytes());
@@ -375,12 +382,27 @@ impl Engine {
     }
 
     pub fn take(&mut self, copy: u32, page: u32) -> Answer {
-        self.copies.take(copy, page, &self.stored)
+        self.copies.take(copy, page, &mut self.store)
     }
 
-    fn claim(&mut self, seat: u8, page: u32, slot: u8, kind: ChangeKind) -> Result<Held, Refusal> {
-        let place = place(page as u16, slot);
-        let against = self.claims.against(place, seat, kind);
+    pub fn drop_copy(&mut self, copy: u32) -> Answer {
+        self.copies.drop_copy(copy, &mut self.store)
+    }
+
+    /// The bytes of a page that a copy has.
+    pub fn stored_page(&self, page: u32, version: Version) -> crate::Page {
+        self.store.page(page, version)
+    }
+
+    fn claim(
+        &mut self,
+        seat: u8,
+        page: u32,
+        place: Place,
+        kind: ChangeKind,
+    ) -> Result<Held, Refusal> {
+        self.volume.begin_page(page as u16);
+        let against = self.volume.against(place, seat, kind);
         if against != 0 {
             let others = (0..MOST_OPEN).filter(|other| against >> other & 1 != 0);
             let least = others.map(|other| self.open[other].number).min();
@@ -388,32 +410,22 @@ impl Engine {
         }
         self.need_room(2)?;
         self.frames.need(page)?;
-        let held = self.claims.take(place, seat, kind);
+        let held = self.volume.claim(place, seat, kind);
         Ok(held.expect("no seat keeps it out"))
     }
 
-    /// Makes a change of a page in memory.
-    fn put(&mut self, page: u32, slot: u8, kind: ChangeKind, number: u64, lsn: u64) {
-        let after = match kind {
-            ChangeKind::Set => number,
-            ChangeKind::Add => self.number(page, slot).wrapping_add(number),
-        };
-        let (number, page) = (page, page as usize);
-        let at = FIRST_SLOT + 8 * usize::from(slot);
-        self.pages[page][at..at + 8].copy_from_slice(&after.to_le_bytes());
-        self.pages[page][8..16].copy_from_slice(&lsn.to_le_bytes());
-        if self.rec_lsns[page] == NONE {
-            self.rec_lsns[page] = lsn;
-            self.frames.note_dirty(number);
+    /// Makes a change of a page in memory, and gives the slot's number before it.
+    fn put(&mut self, page: u32, place: Place, kind: ChangeKind, number: u64, lsn: u64) -> u64 {
+        let before = self.volume.put(page as u16, place, kind, number, lsn);
+        let index = page as usize;
+        if self.rec_lsns[index] == NONE {
+            self.rec_lsns[index] = lsn as u32;
+            self.frames.note_dirty(page);
         }
-        if self.after_image[page] == NONE {
-            self.after_image[page] = lsn;
+        if self.after_image[index] == NONE {
+            self.after_image[index] = lsn as u32;
         }
-    }
-
-    fn number(&self, page: u32, slot: u8) -> u64 {
-        let at = FIRST_SLOT + 8 * usize::from(slot);
-        crate::word(&self.pages[page as usize][at..at + 8])
+        before
     }
 
     /// A record of the transaction in this seat, behind its last one.
@@ -422,20 +434,15 @@ impl Engine {
         Record::new(kind, open.number, open.last)
     }
 
-    fn append(&mut self, mut record: Record) -> u64 {
+    fn append(&mut self, record: Record) -> u64 {
         let lsn = self.log.len() as u64;
-        record.put(56, &lsn.to_le_bytes());
-        self.log.extend_from_slice(&record.0);
+        self.log.extend_from_slice(&record.at(lsn));
         lsn
     }
 
-    /// Stores the records up to and with this one, one after the other.
+    /// Forces the records up to and with this one.
     fn force_to(&mut self, lsn: u64) {
-        while self.device.len() as u64 <= lsn {
-            let at = self.device.len();
-            self.device
-                .extend_from_slice(&self.log[at..at + RECORD_SIZE]);
-        }
+        self.forced = self.forced.max(lsn + RECORD_SIZE as u64);
     }
 
     fn close(&mut self, seat: u8, pending: Vec<Pending>) {
@@ -467,18 +474,18 @@ impl Engine {
     }
 
     fn need_page(&self, page: u32) -> Result<(), Refusal> {
-        if page as usize >= self.pages.len() {
+        if page >= self.page_count {
             return Err(Refusal::PageOut);
         }
         Ok(())
     }
 
-    fn slot(&self, page: u32, slot: u16) -> Result<u8, Refusal> {
+    fn place(&self, page: u32, slot: u16) -> Result<Place, Refusal> {
         self.need_page(page)?;
         if usize::from(slot) >= SLOTS {
             return Err(Refusal::SlotOut);
         }
-        Ok(slot as u8)
+        Ok(Place::of(page as u16, slot as u8))
     }
 
     fn need_room(&self, records: usize) -> Result<(), Refusal> {
@@ -488,9 +495,4 @@ impl Engine {
         }
         Ok(())
     }
-}
-
-/// The LSN of a page.
-pub fn lsn_of(page: &Page) -> u64 {
-    crate::word(&page[8..16])
 }

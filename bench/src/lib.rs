@@ -2,7 +2,6 @@
 
 pub mod chains;
 pub mod checkpoints;
-mod claims;
 pub mod copies;
 pub mod engine;
 mod frames;
@@ -11,6 +10,8 @@ mod records;
 pub mod redo;
 pub mod replies;
 pub mod script;
+pub mod store;
+pub mod volume;
 pub mod workload;
 
 use std::fmt;
@@ -63,12 +64,19 @@ pub enum Fault {
     BadArchive(usize),
     ChainBroken(u32),
     CountDiffers,
+    RedoBeyondLog,
+    PageBeyondLog(u32),
+    Unsound(u32, u32),
 }
 
 impl Fault {
     pub fn status(&self) -> u8 {
         match self {
-            Fault::LogFull | Fault::ChainBroken(_) => 1,
+            Fault::LogFull
+            | Fault::ChainBroken(_)
+            | Fault::RedoBeyondLog
+            | Fault::PageBeyondLog(_)
+            | Fault::Unsound(..) => 1,
             _ => 2,
         }
     }
@@ -86,6 +94,9 @@ impl fmt::Display for Fault {
             Fault::BadArchive(at) => write!(out, "E36 BadArchive {at}"),
             Fault::ChainBroken(copy) => write!(out, "E37 ChainBroken {copy}"),
             Fault::CountDiffers => write!(out, "E38 CountDiffers"),
+            Fault::RedoBeyondLog => write!(out, "E39 RedoBeyondLog"),
+            Fault::PageBeyondLog(page) => write!(out, "E40 PageBeyondLog {page}"),
+            Fault::Unsound(copy, page) => write!(out, "E41 Unsound {copy} {page}"),
         }
     }
 }
@@ -104,20 +115,18 @@ pub fn fill(input: &mut impl Read, buffer: &mut [u8]) -> io::Result<usize> {
     Ok(filled)
 }
 
-pub fn formatted_volume(page_count: u32) -> Vec<Page> {
-    let mut volume = Vec::new();
-    grow_volume(&mut volume, page_count);
-    volume
+/// A page as it is formatted.
+pub fn formatted_page(number: u32) -> Page {
+    let mut page = [0; PAGE_SIZE];
+    page[0..4].copy_from_slice(&number.to_le_bytes());
+    page[4..8].copy_from_slice(&PAGE_FORMAT.to_le_bytes());
+    page
 }
 
-/// Adds formatted pages, so that there are so many.
-pub fn grow_volume(volume: &mut Vec<Page>, page_count: u32) {
-    let present = volume.len();
-    volume.resize(page_count as usize, [0; PAGE_SIZE]);
-    for (number, page) in (present as u32..).zip(&mut volume[present..]) {
-        page[0..4].copy_from_slice(&number.to_le_bytes());
-        page[4..8].copy_from_slice(&PAGE_FORMAT.to_le_bytes());
-    }
+/// The LSN of a page.
+#[inline]
+pub fn lsn_of(page: &Page) -> u64 {
+    word(&page[8..16])
 }
 
 /// Whether the first word of a header is one of these texts.
@@ -125,10 +134,12 @@ pub fn is_one_of(word: u64, texts: [&[u8; 8]; 2]) -> bool {
     texts.iter().any(|text| word == u64::from_le_bytes(**text))
 }
 
-pub fn words(bytes: &[u8]) -> [u64; 8] {
+#[inline]
+pub fn words(bytes: &[u8; 64]) -> [u64; 8] {
     std::array::from_fn(|index| word(&bytes[8 * index..8 * index + 8]))
 }
 
+#[inline]
 pub fn word(bytes: &[u8]) -> u64 {
     u64::from_le_bytes(bytes.try_into().expect("a word has eight bytes"))
 }

@@ -2,14 +2,16 @@
 
 use crate::chains::{Chains, Change, ChangeKind};
 use crate::checkpoints::{self, Checkpoints};
+use crate::volume::Volume;
 use crate::{
-    fill, formatted_volume, grow_volume, halves, is_one_of, word, words, Fault, Page, ABORT, ADD,
-    BEGIN, BEGIN_CHKPT, COMMIT, COMP, END, EXTEND, FIRST_MAGIC, FIRST_SLOT, HEADER_SIZE,
-    LONGEST_LOG, MAGIC, MOST_PAGES, RECORD_SIZE, SET, SLOTS, UPDATE,
+    fill, halves, is_one_of, word, words, Fault, ABORT, ADD, BEGIN, BEGIN_CHKPT, COMMIT, COMP, END,
+    EXTEND, FIRST_MAGIC, HEADER_SIZE, LONGEST_LOG, MAGIC, MOST_PAGES, RECORD_SIZE, SET, SLOTS,
+    UPDATE,
 };
 use std::io::{self, Read};
 
-const CHUNK_SIZE: usize = 1 << 18;
+/// What is read at a time, so little that it stays near the processor.
+const CHUNK_SIZE: usize = 1 << 17;
 
 /// How many records are looked at ahead.
 const AHEAD: usize = 32;
@@ -53,54 +55,66 @@ struct Header {
     is_first: bool,
 }
 
+/// A change of the log, in sixteen bytes.
+#[derive(Clone, Copy, Default)]
+pub struct Kept {
+    pub number: u64,
+    pub lsn: u32,
+    pub page: u16,
+    pub slot: u8,
+    pub is_add: bool,
+}
+
 /// Reads a log by pieces, and keeps none of it.
-pub fn redo(mut log: impl Read) -> Result<Vec<Page>, Failure> {
+pub fn redo(log: impl Read) -> Result<Redo, Failure> {
+    read_keeping(log, u64::MAX)
+}
+
+/// Reads a log by pieces, and keeps of it the changes from this LSN on.
+pub fn read_keeping(mut log: impl Read, keep_from: u64) -> Result<Redo, Failure> {
     let mut header = [0; HEADER_SIZE];
     if fill(&mut log, &mut header)? < HEADER_SIZE {
         return Err(Fault::BadHeader.into());
     }
-    let mut redo = Redo::new(read_header(&header).ok_or(Fault::BadHeader)?);
+    let mut redo = Redo::new(read_header(&header).ok_or(Fault::BadHeader)?, keep_from);
     let mut chunk = vec![0; CHUNK_SIZE];
     loop {
         let count = fill(&mut log, &mut chunk)?;
         redo.take_chunk(&chunk[..count])?;
         if count < CHUNK_SIZE {
-            return Ok(redo.volume);
+            return Ok(redo);
         }
     }
 }
 
-/// Reads a log that is in memory.
-pub fn read(log: &[u8]) -> Result<Redo, Fault> {
-    let header = log.first_chunk().ok_or(Fault::BadHeader)?;
-    let mut redo = Redo::new(read_header(header).ok_or(Fault::BadHeader)?);
-    redo.take_chunk(&log[HEADER_SIZE..])?;
-    Ok(redo)
-}
-
 /// What the records until now leave.
 pub struct Redo {
-    lsn: usize,
+    /// Where the next record begins.
+    pub lsn: usize,
     is_first: bool,
     /// How many pages the volume has before the log, and after each Extend, by its LSN.
     counts: Vec<(u64, u32)>,
     pub page_count: u32,
-    pub volume: Vec<Page>,
+    pub volume: Volume,
     pub chains: Chains,
-    checkpoints: Checkpoints,
+    pub checkpoints: Checkpoints,
+    keep_from: u64,
+    pub kept: Vec<Kept>,
 }
 
 impl Redo {
-    fn new(header: Header) -> Redo {
+    fn new(header: Header, keep_from: u64) -> Redo {
         let page_count = header.page_count;
         Redo {
             lsn: HEADER_SIZE,
             is_first: header.is_first,
             counts: vec![(0, page_count)],
             page_count,
-            volume: formatted_volume(page_count),
-            chains: Chains::new(page_count as usize),
-            checkpoints: Checkpoints::default(),
+            volume: Volume::new(page_count),
+            chains: Chains::new(),
+            checkpoints: Checkpoints::new(),
+            keep_from,
+            kept: Vec::new(),
         }
     }
 
@@ -112,7 +126,7 @@ impl Redo {
 
     fn take_chunk(&mut self, chunk: &[u8]) -> Result<(), Fault> {
         for records in chunk.chunks(AHEAD * RECORD_SIZE) {
-            self.touch(records);
+            self.look(records);
             for bytes in records.chunks(RECORD_SIZE) {
                 self.take_bytes(bytes)?;
             }
@@ -121,13 +135,10 @@ impl Redo {
     }
 
     /// Looks at the slots of these records, right or wrong, so that all of them come from memory at the same time.
-    fn touch(&self, records: &[u8]) {
+    fn look(&self, records: &[u8]) {
         let looks = records.chunks_exact(RECORD_SIZE).map(|bytes| {
             let (number, slot) = halves(word(&bytes[24..32]));
-            let at = FIRST_SLOT + 8 * usize::from(slot as u8);
-            let page = self.volume.get(number as usize);
-            let claim = self.chains.claim(number as u16, slot as u8);
-            claim ^ page.map_or(0, |page| page[8] ^ page.get(at).unwrap_or(&0))
+            self.volume.look(number, slot as u8)
         });
         std::hint::black_box(looks.fold(0, |all, byte| all ^ byte));
     }
@@ -137,9 +148,9 @@ impl Redo {
         if self.lsn == LONGEST_LOG {
             return Err(Fault::TooLong);
         }
-        if bytes.len() < RECORD_SIZE {
+        let Some(bytes) = bytes.first_chunk::<RECORD_SIZE>() else {
             return Err(Fault::Torn(self.lsn));
-        }
+        };
         if u32::from(bytes[0]) >= BEGIN_CHKPT {
             let is_extend = u32::from(bytes[0]) == EXTEND && !self.is_first;
             return if is_extend {
@@ -156,7 +167,7 @@ impl Redo {
     }
 
     #[inline(never)]
-    fn take_checkpoint(&mut self, bytes: &[u8]) -> Result<(), Fault> {
+    fn take_checkpoint(&mut self, bytes: &[u8; RECORD_SIZE]) -> Result<(), Fault> {
         let lsn = self.lsn as u64;
         let record =
             checkpoints::read(bytes, lsn, self.page_count).ok_or(Fault::BadRecord(self.lsn))?;
@@ -169,16 +180,14 @@ impl Redo {
 
     /// The volume grows.
     #[inline(never)]
-    fn take_extend(&mut self, bytes: &[u8]) -> Result<(), Fault> {
+    fn take_extend(&mut self, bytes: &[u8; RECORD_SIZE]) -> Result<(), Fault> {
         let page_count = read_extend(bytes, self.lsn).ok_or(Fault::BadRecord(self.lsn))?;
         if page_count <= self.page_count {
             return Err(Fault::BadChain(self.lsn));
         }
+        self.volume.grow(self.page_count, page_count);
         self.page_count = page_count;
         self.counts.push((self.lsn as u64, page_count));
-        grow_volume(&mut self.volume, page_count);
-        self.chains.grow(page_count as usize);
-        self.checkpoints.note(None);
         self.lsn += RECORD_SIZE;
         Ok(())
     }
@@ -187,63 +196,43 @@ impl Redo {
     #[inline]
     fn take(&mut self, record: &Record) -> Option<()> {
         let (transaction, previous, lsn) = (record.transaction, record.previous, self.lsn as u64);
-        self.checkpoints.note(match &record.step {
-            Step::Update { change, .. } | Step::Comp { change, .. } => Some(change.page),
-            _ => None,
-        });
         if let Step::Begin = record.step {
             return self.chains.begin(transaction, lsn);
         }
         let seat = self.chains.go_on(transaction, previous, lsn)?;
+        let volume = &mut self.volume;
         match &record.step {
             Step::Begin => unreachable!("a Begin was taken above"),
             Step::Update { change, before } => {
-                self.chains.update(seat, previous, change, *before)?;
-                let replaced = self.apply(change);
-                ((change.kind == ChangeKind::Add) | (replaced == *before)).then_some(())
-            }
-            Step::Comp { change, undo_next } => {
-                self.chains.compensate(seat, change, *undo_next)?;
-                self.apply(change);
+                self.chains
+                    .update(seat, previous, change, *before, volume)?;
+                self.note(change);
                 Some(())
             }
-            Step::Commit => self.chains.commit(transaction, seat),
+            Step::Comp { change, undo_next } => {
+                self.chains.compensate(seat, change, *undo_next, volume)?;
+                self.note(change);
+                Some(())
+            }
+            Step::Commit => self.chains.commit(transaction, seat, volume),
             Step::Abort => self.chains.abort(seat),
             Step::End => self.chains.end(transaction, seat),
         }
     }
 
     #[inline]
-    fn apply(&mut self, change: &Change) -> u64 {
-        let page = &mut self.volume[usize::from(change.page)];
-        apply(page, change, self.lsn as u64)
+    fn note(&mut self, change: &Change) {
+        self.checkpoints.note(self.lsn as u64, change.page);
+        if self.lsn as u64 >= self.keep_from {
+            self.kept.push(Kept {
+                number: change.number,
+                lsn: self.lsn as u32,
+                page: change.page,
+                slot: change.slot,
+                is_add: change.kind == ChangeKind::Add,
+            });
+        }
     }
-}
-
-/// Makes the change, and gives the slot's number before it.
-#[inline]
-pub fn apply(page: &mut Page, change: &Change, lsn: u64) -> u64 {
-    page[8..16].copy_from_slice(&lsn.to_le_bytes());
-    let at = FIRST_SLOT + 8 * usize::from(change.slot);
-    let slot = &mut page[at..at + 8];
-    let before = word(slot);
-    let base = if change.kind == ChangeKind::Add {
-        before
-    } else {
-        0
-    };
-    let after = base.wrapping_add(change.number);
-    slot.copy_from_slice(&after.to_le_bytes());
-    before
-}
-
-/// The change that this record of a linked log makes, if it makes one.
-#[inline]
-pub fn change_of(bytes: &[u8], page_count: u32) -> Option<Change> {
-    let (kind, _) = halves(word(&bytes[0..8]));
-    let is_change = kind == UPDATE || kind == COMP;
-    let change = || read_change(word(&bytes[24..32]), word(&bytes[40..48]), page_count);
-    is_change.then(change).flatten()
 }
 
 /// What the header says, if these bytes are one.
@@ -258,7 +247,7 @@ fn read_header(header: &[u8; HEADER_SIZE]) -> Option<Header> {
 }
 
 /// The page count of an Extend, if these bytes are one at this LSN.
-fn read_extend(bytes: &[u8], lsn: usize) -> Option<u32> {
+fn read_extend(bytes: &[u8; RECORD_SIZE], lsn: usize) -> Option<u32> {
     let [head, previous, undo_next, page_count, rest @ .., own] = words(bytes);
     let is_extend = [head, previous, undo_next, own] == [u64::from(EXTEND), 0, 0, lsn as u64];
     page_count_of(page_count).filter(|_| is_extend && rest == [0; 3])
@@ -271,13 +260,13 @@ fn page_count_of(word: u64) -> Option<u32> {
 
 /// The record, if these bytes are one at this LSN in a volume of this many pages.
 #[inline]
-fn read_record(bytes: &[u8], lsn: usize, page_count: u32) -> Option<Record> {
+fn read_record(bytes: &[u8; RECORD_SIZE], lsn: usize, page_count: u32) -> Option<Record> {
     let [head, previous, undo_next, place, before, number, zero, own] = words(bytes);
     let (kind, transaction) = halves(head);
     if transaction == 0 || zero != 0 || own != lsn as u64 {
         return None;
     }
-    let no_change = place == 0 && before == 0 && number == 0;
+    let no_change = place | before | number == 0;
     let is_chained = is_before(previous, own) && (kind == COMP || undo_next == 0);
     let step = match kind {
         BEGIN if previous == 0 && undo_next == 0 && no_change => Step::Begin,
@@ -303,10 +292,12 @@ fn read_record(bytes: &[u8], lsn: usize, page_count: u32) -> Option<Record> {
 }
 
 /// Whether a record may stand at this LSN and before the other one.
+#[inline]
 fn is_before(lsn: u64, own: u64) -> bool {
     lsn >= HEADER_SIZE as u64 && lsn < own && lsn % RECORD_SIZE as u64 == 0
 }
 
+#[inline]
 fn read_change(place: u64, number: u64, page_count: u32) -> Option<Change> {
     let (page, slot_and_kind) = halves(place);
     let (slot, kind) = (slot_and_kind as u16, (slot_and_kind >> 16) as u16);

@@ -5,7 +5,6 @@ use crate::copies::Source;
 use crate::engine::Engine;
 use crate::replies::Answer;
 use std::fmt;
-use std::str::FromStr;
 
 pub const LONGEST_SCRIPT: usize = 1 << 24;
 const MOST_DIGITS: usize = 20;
@@ -52,66 +51,140 @@ impl Event {
             Event::Copy(source) => engine.copy(source),
             Event::Take(copy, page) => engine.take(copy, page),
             Event::Seal(copy) => engine.copies.seal(copy),
-            Event::Drop(copy) => engine.copies.drop_copy(copy),
+            Event::Drop(copy) => engine.drop_copy(copy),
         }
     }
 }
 
-/// The events of a script that has no `restore`, or the number of the first bad line.
-pub fn parse(script: &str) -> Result<Vec<Event>, usize> {
-    let mut events = Vec::new();
-    for (number, line) in (1usize..).zip(script.split('\n')) {
-        let line = line.strip_suffix('\r').unwrap_or(line);
-        if !line.is_empty() && !line.starts_with('#') {
-            events.push(parse_line(line).ok_or(number)?);
+/// Lines of a script, each of which ends with a line feed, and how far they are read.
+pub struct Lines<'a> {
+    pub text: &'a [u8],
+    pub at: usize,
+}
+
+/// What a line names.
+pub enum Line {
+    Event(Event),
+    /// Nothing: it is empty, or a remark.
+    Nothing,
+    Bad,
+}
+
+impl<'a> Lines<'a> {
+    /// The next line, if there is one, and its text where it is a remark or bad. There is no `restore` in it.
+    #[inline]
+    pub fn next_line(&mut self) -> Option<(Line, &'a [u8])> {
+        let start = self.at;
+        if start >= self.text.len() {
+            return None;
+        }
+        if !self.is_end() && self.text[start] != b'#' {
+            if let Some(event) = self.event() {
+                self.skip(b' ');
+                if self.is_end() {
+                    self.at += 1 + usize::from(self.text[self.at] == b'\r');
+                    return Some((Line::Event(event), &[]));
+                }
+            }
+        }
+        let rest = &self.text[start..];
+        let size = rest.iter().position(|byte| *byte == b'\n');
+        let line = &rest[..size.unwrap_or(rest.len())];
+        self.at = start + line.len() + 1;
+        let is_nothing = matches!(line, [] | b"\r" | [b'#', ..]);
+        Some((if is_nothing { Line::Nothing } else { Line::Bad }, line))
+    }
+
+    fn event(&mut self) -> Option<Event> {
+        Some(match self.word() {
+            b"set" => self.change(ChangeKind::Set)?,
+            b"add" => self.change(ChangeKind::Add)?,
+            b"read" => Event::Read(self.count()?, self.short()?),
+            b"take" => Event::Take(self.count()?, self.count()?),
+            b"wbegin" => Event::WriteBegin(self.count()?),
+            b"wend" => Event::WriteEnd(self.count()?),
+            b"begin" => Event::Begin,
+            b"commit" => Event::Commit(self.count()?),
+            b"gather" => Event::Gather,
+            b"undo" => Event::Undo(self.count()?),
+            b"abort" => Event::Abort(self.count()?),
+            b"extend" => Event::Extend(self.count()?),
+            b"force" => Event::Force,
+            b"ckpt" => Event::CheckpointBegin,
+            b"endckpt" => Event::CheckpointEnd,
+            b"full" => Event::Copy(Source::All),
+            b"inc" => Event::Copy(Source::After(self.count()?)),
+            b"seal" => Event::Seal(self.count()?),
+            b"drop" => Event::Drop(self.count()?),
+            _ => return None,
+        })
+    }
+
+    fn change(&mut self, kind: ChangeKind) -> Option<Event> {
+        let (transaction, page) = (self.count()?, self.count()?);
+        let (slot, number) = (self.short()?, self.number()?);
+        Some(Event::Change(kind, transaction, page, slot, number))
+    }
+
+    /// Whether the line ends here.
+    #[inline]
+    fn is_end(&self) -> bool {
+        match self.text.get(self.at) {
+            Some(b'\r') => self.text.get(self.at + 1) == Some(&b'\n'),
+            byte => byte == Some(&b'\n'),
         }
     }
-    Ok(events)
-}
 
-fn parse_line(line: &str) -> Option<Event> {
-    let mut words = line.split(' ').filter(|word| !word.is_empty());
-    let event = match words.next()? {
-        "begin" => Event::Begin,
-        "set" => change(ChangeKind::Set, &mut words)?,
-        "add" => change(ChangeKind::Add, &mut words)?,
-        "read" => Event::Read(number(&mut words)?, number(&mut words)?),
-        "commit" => Event::Commit(number(&mut words)?),
-        "abort" => Event::Abort(number(&mut words)?),
-        "undo" => Event::Undo(number(&mut words)?),
-        "extend" => Event::Extend(number(&mut words)?),
-        "force" => Event::Force,
-        "ckpt" => Event::CheckpointBegin,
-        "gather" => Event::Gather,
-        "endckpt" => Event::CheckpointEnd,
-        "wbegin" => Event::WriteBegin(number(&mut words)?),
-        "wend" => Event::WriteEnd(number(&mut words)?),
-        "full" => Event::Copy(Source::All),
-        "inc" => Event::Copy(Source::After(number(&mut words)?)),
-        "take" => Event::Take(number(&mut words)?, number(&mut words)?),
-        "seal" => Event::Seal(number(&mut words)?),
-        "drop" => Event::Drop(number(&mut words)?),
-        _ => return None,
-    };
-    words.next().is_none().then_some(event)
-}
+    #[inline]
+    fn skip(&mut self, skipped: u8) {
+        while self.text.get(self.at) == Some(&skipped) {
+            self.at += 1;
+        }
+    }
 
-fn change<'a>(kind: ChangeKind, words: &mut impl Iterator<Item = &'a str>) -> Option<Event> {
-    let (transaction, page) = (number(words)?, number(words)?);
-    Some(Event::Change(
-        kind,
-        transaction,
-        page,
-        number(words)?,
-        number(words)?,
-    ))
-}
+    #[inline]
+    fn word(&mut self) -> &'a [u8] {
+        self.skip(b' ');
+        let start = self.at;
+        while self.text.get(self.at) != Some(&b' ') && !self.is_end() {
+            self.at += 1;
+        }
+        &self.text[start..self.at]
+    }
 
-/// The next word, if it is a number of at most 20 digits that fits its type.
-fn number<'a, N: FromStr>(words: &mut impl Iterator<Item = &'a str>) -> Option<N> {
-    let word = words.next()?;
-    let is_number = word.len() <= MOST_DIGITS && word.bytes().all(|byte| byte.is_ascii_digit());
-    is_number.then(|| word.parse().ok()).flatten()
+    #[inline]
+    fn count(&mut self) -> Option<u32> {
+        u32::try_from(self.number()?).ok()
+    }
+
+    #[inline]
+    fn short(&mut self) -> Option<u16> {
+        u16::try_from(self.number()?).ok()
+    }
+
+    /// The next word, if it is a number of at most 20 digits that fits its type.
+    #[inline]
+    fn number(&mut self) -> Option<u64> {
+        self.skip(b' ');
+        let (start, mut number) = (self.at, 0u64);
+        while let Some(digit) = self.text.get(self.at).map(|byte| byte.wrapping_sub(b'0')) {
+            if digit > 9 {
+                break;
+            }
+            number = number.wrapping_mul(10).wrapping_add(u64::from(digit));
+            self.at += 1;
+        }
+        let size = self.at - start;
+        if size == 0 || (self.text.get(self.at) != Some(&b' ') && !self.is_end()) {
+            return None;
+        }
+        if size < MOST_DIGITS {
+            return Some(number);
+        }
+        // so many digits may be too large a number
+        let digits = std::str::from_utf8(&self.text[start..self.at]).ok()?;
+        (size == MOST_DIGITS).then(|| digits.parse().ok()).flatten()
+    }
 }
 
 /// The line of the event.

@@ -119,7 +119,9 @@ fn save(engine: &Engine, folder: &Path) -> io::Result<Vec<String>> {
         let name = format!("copy-{id}");
         let mut out = BufWriter::new(File::create(folder.join(&name))?);
         out.write_all(&header)?;
-        out.write_all(pages.as_flattened())?;
+        for (page, version) in pages {
+            out.write_all(&engine.stored_page(*page, *version))?;
+        }
         out.flush()?;
         names.push(name);
     }

@@ -2,7 +2,9 @@
 //! plain Rust. It is the measure that imgcopy is held to.
 
 use bench::redo::{redo, Failure};
+use std::fs::File;
 use std::io::{self, Write};
+use std::os::fd::AsFd;
 use std::process::ExitCode;
 
 fn main() -> ExitCode {
@@ -24,8 +26,8 @@ fn main() -> ExitCode {
 }
 
 fn run() -> Result<(), Failure> {
-    let volume = redo(io::stdin().lock())?;
-    let mut out = io::stdout().lock();
-    out.write_all(volume.as_flattened())?;
-    Ok(out.flush()?)
+    let input = File::from(io::stdin().as_fd().try_clone_to_owned()?);
+    let mut output = File::from(io::stdout().as_fd().try_clone_to_owned()?);
+    let mut redo = redo(input)?;
+    Ok(output.write_all(redo.volume.finish(redo.page_count))?)
 }

@@ -1,15 +1,15 @@
 //! `plain_restore restore LOG MASTER ARCHIVE.. > volume` does what `imgcopy restore` does, with the same checks and the
 //! same faults of files that can be read, in plain Rust.
 
-use bench::copies::Chain;
-use bench::engine::lsn_of;
-use bench::redo::{self, Failure, Redo};
-use bench::{
-    word, words, Fault, Page, BEGIN_CHKPT, END_CHKPT, HEADER_SIZE, MOST_RECORDS, RECORD_SIZE,
-};
+use bench::chains::{Chains, Change, ChangeKind};
+use bench::checkpoints::Checkpoints;
+use bench::copies::{open_chain, pages_of_chain, redo_point};
+use bench::redo::{read_keeping, Failure, Kept};
+use bench::{lsn_of, word, words, Fault, Page, FIRST_SLOT, MOST_RECORDS, PAGE_SIZE, RECORD_SIZE};
 use std::ffi::OsString;
-use std::fs;
+use std::fs::{self, File};
 use std::io::{self, Write};
+use std::os::fd::AsFd;
 use std::process::ExitCode;
 
 const MASTER_MAGIC: &[u8; 8] = b"AIMGMST1";
@@ -40,35 +40,35 @@ fn usage() -> ExitCode {
     ExitCode::from(1)
 }
 
+/// How many changes are looked at ahead.
+const AHEAD: usize = 32;
+
+/// How many pages of an incremental copy are read at a time.
+const READ_AHEAD: usize = 256;
+
 fn run(log: &OsString, master: &OsString, archives: &[OsString]) -> Result<(), Failure> {
-    let log = fs::read(log)?;
-    let read = redo::read(&log)?;
-    check_master(&fs::read(master)?, &log)?;
-    if archives.is_empty() {
-        return Err(Fault::ChainBroken(0).into());
-    }
-    let mut chain = Chain::new(read.page_count);
-    for archive in archives {
-        chain.add(&fs::read(archive)?, &read)?;
-    }
-    let records = log.len() / RECORD_SIZE - 1;
-    let owed: usize = read
-        .chains
-        .open_transactions()
-        .map(|open| open.owed())
-        .sum();
+    // Only from there on a change is redone, so only those are kept.
+    let from = archives.last().and_then(redo_point).unwrap_or(u64::MAX);
+    let read = read_keeping(File::open(log)?, from)?;
+    check_master(&fs::read(master)?, &read.checkpoints)?;
+    let chain = open_chain(archives, &read, READ_AHEAD)?;
+    // The log is checked, so the memory of its pages is free for those of the chain.
+    let mut bytes = pages_of_chain(chain, read.page_count, read.volume.into_bytes())?;
+    let records = read.lsn / RECORD_SIZE - 1;
+    let open = read.chains.open_transactions();
+    let owed: usize = open.map(|open| open.owed()).sum();
     if records + owed > MOST_RECORDS {
         return Err(Fault::LogFull.into());
     }
-    resume(&mut chain.pages, &log, chain.redo);
-    undo(&mut chain.pages, &read, log.len() as u64);
-    let mut out = io::stdout().lock();
-    out.write_all(chain.pages.as_flattened())?;
-    Ok(out.flush()?)
+    let (pages, _) = bytes.as_chunks_mut::<PAGE_SIZE>();
+    resume(pages, &read.kept);
+    undo(pages, &read.chains, read.lsn as u64);
+    let mut out = File::from(io::stdout().as_fd().try_clone_to_owned()?);
+    Ok(out.write_all(&bytes)?)
 }
 
 /// Checks that these bytes name a complete checkpoint of the log.
-fn check_master(master: &[u8], log: &[u8]) -> Result<(), Fault> {
+fn check_master(master: &[u8], checkpoints: &Checkpoints) -> Result<(), Fault> {
     let bytes: &[u8; 64] = master.try_into().map_err(|_| Fault::BadHeader)?;
     let [magic, begin, end, rest @ ..] = words(bytes);
     let is_master = magic == u64::from_le_bytes(*MASTER_MAGIC)
@@ -79,57 +79,59 @@ fn check_master(master: &[u8], log: &[u8]) -> Result<(), Fault> {
     if !is_master {
         return Err(Fault::BadHeader);
     }
-    let is_kind = |record: &&[u8], kind: u32| u32::from(record[0]) == kind;
-    let first = record_at(log, begin).filter(|record| is_kind(record, BEGIN_CHKPT));
-    let last = record_at(log, end).filter(|record| is_kind(record, END_CHKPT));
-    match (first, last) {
-        (Some(_), Some(last)) if word(&last[8..16]) == begin => Ok(()),
-        _ => Err(Fault::BadChain(begin as usize)),
+    if checkpoints.is_complete(begin, end) {
+        Ok(())
+    } else {
+        Err(Fault::BadChain(begin as usize))
     }
 }
 
-fn record_at(log: &[u8], lsn: u64) -> Option<&[u8]> {
-    let at = usize::try_from(lsn).ok()?;
-    log.get(at..at.checked_add(RECORD_SIZE)?)
-}
-
-/// Redoes the log from the redo point on, on pages that have some of it already.
-fn resume(pages: &mut [Page], log: &[u8], redo_point: u64) {
-    let first = log.len().min(redo_point as usize).max(HEADER_SIZE);
-    let page_count = pages.len() as u32;
-    for (lsn, bytes) in (first..)
-        .step_by(RECORD_SIZE)
-        .zip(log[first..].chunks(RECORD_SIZE))
-    {
-        let Some(change) = redo::change_of(bytes, page_count) else {
-            continue;
-        };
-        let page = &mut pages[usize::from(change.page)];
-        if lsn as u64 > lsn_of(page) {
-            redo::apply(page, &change, lsn as u64);
+/// Redoes changes on pages that have some of them already.
+fn resume(pages: &mut [Page], changes: &[Kept]) {
+    for changes in changes.chunks(AHEAD) {
+        let looks = changes.iter().map(|change| {
+            let page = &pages[usize::from(change.page)];
+            page[8] ^ page[at_slot(change.slot)]
+        });
+        std::hint::black_box(looks.fold(0, |all, byte| all ^ byte));
+        for change in changes {
+            let page = &mut pages[usize::from(change.page)];
+            if u64::from(change.lsn) > lsn_of(page) {
+                put(page, change.slot, change.is_add, change.number, change.lsn);
+            }
         }
     }
 }
 
+fn at_slot(slot: u8) -> usize {
+    FIRST_SLOT + 8 * usize::from(slot)
+}
+
+#[inline]
+fn put(page: &mut Page, slot: u8, is_add: bool, number: u64, lsn: u32) {
+    page[8..16].copy_from_slice(&u64::from(lsn).to_le_bytes());
+    let slot = &mut page[at_slot(slot)..at_slot(slot) + 8];
+    let base = if is_add { word(slot) } else { 0 };
+    slot.copy_from_slice(&base.wrapping_add(number).to_le_bytes());
+}
+
 /// Takes back the pending changes, the last one first. Each Comp and each End takes the place of a record.
-fn undo(pages: &mut [Page], read: &Redo, end: u64) {
+fn undo(pages: &mut [Page], chains: &Chains, end: u64) {
     let mut lsn = end;
     let mut changes = Vec::new();
     let mut left = Vec::new();
-    for (index, open) in read.chains.open_transactions().enumerate() {
+    for (index, open) in chains.open_transactions().enumerate() {
         left.push(open.pending.len());
         if open.pending.is_empty() {
             lsn += RECORD_SIZE as u64;
         }
         changes.extend(open.pending.iter().map(|pending| (pending, index)));
     }
-    changes.sort_unstable_by_key(|(pending, _)| std::cmp::Reverse(pending.lsn));
-    for (pending, index) in changes {
-        redo::apply(
-            &mut pages[usize::from(pending.undo.page)],
-            &pending.undo,
-            lsn,
-        );
+    changes.sort_by_key(|(pending, _)| pending.lsn);
+    for (pending, index) in changes.into_iter().rev() {
+        let Change { page, slot, kind, number } = pending.undo();
+        let page = &mut pages[usize::from(page)];
+        put(page, slot, kind == ChangeKind::Add, number, lsn as u32);
         left[index] -= 1;
         lsn += RECORD_SIZE as u64 * if left[index] == 0 { 2 } else { 1 };
     }
