@@ -273,6 +273,20 @@ impl Archive {
         Ok(Ok(self.buffer[start..].first_chunk()))
     }
 
+    /// The number of the next page, if there is one.
+    pub fn next_number(&mut self) -> Result<Option<u32>, crate::redo::Failure> {
+        match self.next()? {
+            Ok(page) => Ok(page.map(number_of)),
+            Err(refused) => Err(refused.fault.into()),
+        }
+    }
+
+    /// The page that came last.
+    pub fn page(&self) -> &Page {
+        let page = self.buffer[..self.start].last_chunk();
+        page.expect("a page was read")
+    }
+
     /// The number of a page that may come next.
     #[inline]
     fn check(&self, page: &Page) -> Result<u32, Fault> {

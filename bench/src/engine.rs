@@ -179,10 +179,9 @@ impl Engine {
 
     /// Looks at a slot, so that it comes from memory.
     pub fn look(&self, page: u32, slot: u16) -> u8 {
-        if page < self.page_count && self.volume.lsn(page as u16) != 0 {
-            self.volume.look(page, slot as u8)
-        } else {
-            0
+        match self.place(page, slot) {
+            Ok(place) if self.volume.lsn(page as u16) != 0 => self.volume.look(place),
+            _ => 0,
         }
     }
 

@@ -2,7 +2,7 @@
 
 use crate::chains::{Chains, Change, ChangeKind};
 use crate::checkpoints::{self, Checkpoints};
-use crate::volume::Volume;
+use crate::volume::{Place, Volume};
 use crate::{
     fill, halves, is_one_of, word, words, Fault, ABORT, ADD, BEGIN, BEGIN_CHKPT, COMMIT, COMP, END,
     EXTEND, FIRST_MAGIC, HEADER_SIZE, LONGEST_LOG, MAGIC, MOST_PAGES, RECORD_SIZE, SET, SLOTS,
@@ -134,12 +134,15 @@ impl Redo {
         Ok(())
     }
 
-    /// Looks at the slots of these records, right or wrong, so that all of them come from memory at the same time.
+    /// Looks at the slots of these records, right or wrong, so that all of them come from memory at the same time. Where they
+    /// are is found before, so that no look waits for that.
     fn look(&self, records: &[u8]) {
-        let looks = records.chunks_exact(RECORD_SIZE).map(|bytes| {
+        let mut places = [Place::of(0, 0); AHEAD];
+        for (place, bytes) in places.iter_mut().zip(records.chunks_exact(RECORD_SIZE)) {
             let (number, slot) = halves(word(&bytes[24..32]));
-            self.volume.look(number, slot as u8)
-        });
+            *place = Place::of(number as u16, slot as u8 & 63);
+        }
+        let looks = places.iter().map(|place| self.volume.look(*place));
         std::hint::black_box(looks.fold(0, |all, byte| all ^ byte));
     }
 

@@ -149,8 +149,7 @@ impl Volume {
 
     /// Looks at a slot, and at who holds it, if there is one, so that both come from memory.
     #[inline]
-    pub fn look(&self, page: u32, slot: u8) -> u8 {
-        let place = Place::of(page as u16, slot);
+    pub fn look(&self, place: Place) -> u8 {
         let number = self.bytes.get(place.at()).unwrap_or(&0);
         number ^ self.claims.get(place.index()).unwrap_or(&0)
     }
