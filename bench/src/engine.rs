@@ -12,7 +12,7 @@ use crate::store::{Store, Version};
 use crate::volume::{Held, Place, Volume};
 use crate::{
     ABORT, BEGIN, BEGIN_CHKPT, CHKPT_PAGES, CHKPT_TXNS, COMMIT, COMP, END, END_CHKPT, EXTEND,
-    HEADER_SIZE, MAGIC, MOST_OPEN, MOST_PAGES, MOST_RECORDS, RECORD_SIZE, SLOTS, UPDATE,
+    HEADER_SIZE, LONGEST_LOG, MAGIC, MOST_OPEN, MOST_PAGES, MOST_RECORDS, RECORD_SIZE, SLOTS, UPDATE,
 };
 
 /// In the place of the seat of a transaction that is not open any more.
@@ -39,6 +39,22 @@ struct Pending {
     kind: ChangeKind,
     held: Held,
 }
+
+/// What is not stored of a page.
+#[derive(Clone, Copy)]
+struct Dirty {
+    /// `NONE` where it is clean.
+    rec_lsn: u32,
+    /// The first change after the image of its write in progress.
+    after_image: u32,
+    image: Version,
+}
+
+const CLEAN: Dirty = Dirty {
+    rec_lsn: NONE,
+    after_image: NONE,
+    image: Version::NONE,
+};
 
 /// What an open checkpoint gathers next.
 enum Gather {
@@ -71,12 +87,8 @@ pub struct Engine {
     page_count: u32,
     volume: Volume,
     store: Store,
-    /// By page, `NONE` where it is clean.
-    rec_lsns: Vec<u32>,
-    /// By page: the first change after the image of its write in progress.
-    after_image: Vec<u32>,
-    /// By page: the image of its write in progress.
-    images: Vec<Version>,
+    /// By page.
+    dirty: Vec<Dirty>,
     frames: Frames,
     /// The seat of each transaction that began, from transaction 1 on.
     seats: Vec<u8>,
@@ -97,17 +109,18 @@ impl Engine {
         header[0..8].copy_from_slice(MAGIC);
         header[8..12].copy_from_slice(&page_count.to_le_bytes());
         let most = MOST_PAGES as usize;
+        // asked for at once, as a list that grows is moved; the system gives what is written of it
+        let mut log = Vec::with_capacity(LONGEST_LOG);
+        log.extend_from_slice(&header);
         Engine {
-            log: header.to_vec(),
+            log,
             forced: HEADER_SIZE as u64,
             page_count,
             volume: Volume::untouched(),
             store: Store::new(),
-            rec_lsns: vec![NONE; most],
-            after_image: vec![NONE; most],
-            images: vec![Version::NONE; most],
+            dirty: vec![CLEAN; most],
             frames: Frames::new(frames),
-            seats: Vec::new(),
+            seats: Vec::with_capacity(MOST_RECORDS),
             open: std::array::from_fn(|_| Transaction::default()),
             free_seats: u64::MAX,
             owed: 0,
@@ -254,29 +267,30 @@ impl Engine {
 
     pub fn write_begin(&mut self, page: u32) -> Answer {
         self.need_page(page)?;
-        let page = page as usize;
-        if self.images[page] != Version::NONE {
+        let dirty = &mut self.dirty[page as usize];
+        if dirty.image != Version::NONE {
             return Err(Refusal::WriteBegun);
         }
-        if self.rec_lsns[page] == NONE {
+        if dirty.rec_lsn == NONE {
             return Err(Refusal::NotDirty);
         }
+        dirty.after_image = NONE;
+        dirty.image = self.store.image(&self.volume, page as u16);
         let lsn = self.volume.lsn(page as u16);
         self.force_to(lsn);
-        self.after_image[page] = NONE;
-        self.images[page] = self.store.image(&self.volume, page as u16);
         Ok(Reply::Writing(lsn))
     }
 
     pub fn write_end(&mut self, page: u32) -> Answer {
         self.need_page(page)?;
-        let image = std::mem::replace(&mut self.images[page as usize], Version::NONE);
+        let dirty = &mut self.dirty[page as usize];
+        let image = std::mem::replace(&mut dirty.image, Version::NONE);
         if image == Version::NONE {
             return Err(Refusal::NoWrite);
         }
         self.store.put(page, image);
-        self.rec_lsns[page as usize] = self.after_image[page as usize];
-        if self.rec_lsns[page as usize] == NONE {
+        dirty.rec_lsn = dirty.after_image;
+        if dirty.rec_lsn == NONE {
             self.frames.note_clean(page);
         }
         Ok(Reply::Written(self.store.lsn(image)))
@@ -313,14 +327,15 @@ impl Engine {
     }
 
     fn gather_pages(&mut self, checkpoint: &mut Checkpoint, cursor: u32) -> Answer {
-        let dirty = (cursor..self.page_count).zip(&self.rec_lsns[cursor as usize..]);
-        let mut entries = dirty.filter(|(_, rec_lsn)| **rec_lsn != NONE).take(3);
+        let pages = (cursor..self.page_count).zip(&self.dirty[cursor as usize..]);
+        let rec_lsns = pages.map(|(page, dirty)| (page, dirty.rec_lsn));
+        let entries = rec_lsns.filter(|(_, rec_lsn)| *rec_lsn != NONE).take(3);
         let mut record = Record::new(CHKPT_PAGES, 0, checkpoint.begin);
         let (mut count, mut last, mut redo) = (0, cursor, checkpoint.redo);
-        for (page, rec_lsn) in &mut entries {
+        for (page, rec_lsn) in entries {
             record.put(20 + 12 * count, &page.to_le_bytes());
-            record.put(24 + 12 * count, &u64::from(*rec_lsn).to_le_bytes());
-            redo = redo.min(u64::from(*rec_lsn));
+            record.put(24 + 12 * count, &u64::from(rec_lsn).to_le_bytes());
+            redo = redo.min(u64::from(rec_lsn));
             (count, last) = (count + 1, page);
         }
         if count == 0 {
@@ -416,13 +431,13 @@ impl Engine {
     /// Makes a change of a page in memory, and gives the slot's number before it.
     fn put(&mut self, page: u32, place: Place, kind: ChangeKind, number: u64, lsn: u64) -> u64 {
         let before = self.volume.put(page as u16, place, kind, number, lsn);
-        let index = page as usize;
-        if self.rec_lsns[index] == NONE {
-            self.rec_lsns[index] = lsn as u32;
-            self.frames.note_dirty(page);
+        let dirty = &mut self.dirty[page as usize];
+        if dirty.after_image == NONE {
+            dirty.after_image = lsn as u32;
         }
-        if self.after_image[index] == NONE {
-            self.after_image[index] = lsn as u32;
+        if dirty.rec_lsn == NONE {
+            dirty.rec_lsn = lsn as u32;
+            self.frames.note_dirty(page);
         }
         before
     }

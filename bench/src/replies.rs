@@ -101,11 +101,14 @@ const DIGITS: [[u8; 2]; 100] = {
     digits
 };
 
-/// A word and, behind it, a number.
+const MOST_DIGITS: usize = 20;
+
+/// A word and, behind it, a number. So many digits as there may be are copied, which is faster than as many as there are,
+/// and those that are too many are given up.
 #[inline]
 fn put_word(line: &mut Vec<u8>, word: &str, mut number: u64) {
-    let mut digits = [0; 20];
-    let mut at = digits.len();
+    let mut digits = [0; 2 * MOST_DIGITS];
+    let mut at = MOST_DIGITS;
     while number >= 100 {
         at -= 2;
         digits[at..at + 2].copy_from_slice(&DIGITS[(number % 100) as usize]);
@@ -115,7 +118,11 @@ fn put_word(line: &mut Vec<u8>, word: &str, mut number: u64) {
     digits[at..at + 2].copy_from_slice(&DIGITS[number as usize]);
     let first = at + usize::from(number < 10);
     line.extend_from_slice(word.as_bytes());
-    line.extend_from_slice(&digits[first..]);
+    let end = line.len() + MOST_DIGITS - first;
+    if let Some(copied) = digits[first..].first_chunk::<MOST_DIGITS>() {
+        line.extend_from_slice(copied);
+    }
+    line.truncate(end);
 }
 
 impl Refusal {

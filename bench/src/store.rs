@@ -4,7 +4,7 @@
 //! a page by its number here, and no bytes are moved. A page that was never written has no bytes at all.
 
 use crate::volume::Volume;
-use crate::{formatted_page, Page, MOST_PAGES, PAGE_SIZE};
+use crate::{formatted_page, Page, FIRST_SLOT, MOST_PAGES, PAGE_SIZE};
 
 /// The number of stored bytes of a page. `NONE` are those of the formatted page.
 #[derive(Clone, Copy, PartialEq)]
@@ -18,8 +18,8 @@ impl Version {
     }
 }
 
-/// How many pages are asked for at a time.
-const PIECE: usize = 256;
+/// How much memory is asked for at first. The system gives what is written of it.
+const ROOM: usize = 1 << 26;
 
 #[derive(Clone, Copy)]
 struct Told {
@@ -29,7 +29,7 @@ struct Told {
 }
 
 pub struct Store {
-    pieces: Vec<Vec<Page>>,
+    bytes: Vec<u8>,
     told: Vec<Told>,
     free: Vec<Version>,
     /// By page.
@@ -39,8 +39,8 @@ pub struct Store {
 impl Store {
     pub fn new() -> Store {
         Store {
-            pieces: Vec::new(),
-            told: Vec::new(),
+            bytes: Vec::with_capacity(ROOM),
+            told: Vec::with_capacity(ROOM / PAGE_SIZE),
             free: Vec::new(),
             current: vec![Version::NONE; MOST_PAGES as usize],
         }
@@ -48,19 +48,20 @@ impl Store {
 
     /// An image of a page as it is now.
     pub fn image(&mut self, volume: &Volume, page: u16) -> Version {
-        let version = self.free.pop().unwrap_or_else(|| self.add());
         let lsn = volume.lsn(page) as u32;
-        self.told[version.index()] = Told { lsn, holders: 1 };
-        let piece = &mut self.pieces[version.index() / PIECE];
-        volume.write_page(page, &mut piece[version.index() % PIECE]);
-        version
-    }
-
-    fn add(&mut self) -> Version {
-        if self.told.len() % PIECE == 0 {
-            self.pieces.push(vec![[0; PAGE_SIZE]; PIECE]);
+        let told = Told { lsn, holders: 1 };
+        let (header, slots) = volume.page_parts(page);
+        if let Some(version) = self.free.pop() {
+            self.told[version.index()] = told;
+            let at = PAGE_SIZE * version.index();
+            let (into_header, into_slots) = self.bytes[at..at + PAGE_SIZE].split_at_mut(FIRST_SLOT);
+            into_header.copy_from_slice(&header);
+            into_slots.copy_from_slice(slots);
+            return version;
         }
-        self.told.push(Told { lsn: 0, holders: 0 });
+        self.told.push(told);
+        self.bytes.extend_from_slice(&header);
+        self.bytes.extend_from_slice(slots);
         Version(self.told.len() as u32)
     }
 
@@ -105,7 +106,9 @@ impl Store {
     pub fn page(&self, page: u32, version: Version) -> Page {
         match version {
             Version::NONE => formatted_page(page),
-            _ => self.pieces[version.index() / PIECE][version.index() % PIECE],
+            _ => *self.bytes[PAGE_SIZE * version.index()..]
+                .first_chunk()
+                .expect("a version has the bytes of a page"),
         }
     }
 }

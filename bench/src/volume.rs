@@ -6,7 +6,7 @@
 //! change touches costs nothing, and a volume that grows is not moved.
 
 use crate::chains::ChangeKind;
-use crate::{word, Page, FIRST_SLOT, MOST_PAGES, PAGE_FORMAT, PAGE_SIZE, SLOTS};
+use crate::{word, FIRST_SLOT, MOST_PAGES, PAGE_FORMAT, PAGE_SIZE, SLOTS};
 use std::thread;
 
 /// What the system gives at a time.
@@ -265,16 +265,11 @@ impl Volume {
         seats & !bit(seat)
     }
 
-    /// The bytes of a page.
-    pub fn write_page(&self, page: u16, bytes: &mut Page) {
+    /// The bytes of a page that was changed: its header, and its slots.
+    pub fn page_parts(&self, page: u16) -> ([u8; FIRST_SLOT], &[u8]) {
         let at = usize::from(page) * PAGE_SIZE;
-        let (header, slots) = bytes.split_at_mut(FIRST_SLOT);
-        header.copy_from_slice(&header_of(page, self.lsn(page)));
-        if self.lsn(page) == 0 {
-            slots.fill(0);
-        } else {
-            slots.copy_from_slice(&self.bytes[at + FIRST_SLOT..at + PAGE_SIZE]);
-        }
+        let slots = &self.bytes[at + FIRST_SLOT..at + PAGE_SIZE];
+        (header_of(page, self.lsn(page)), slots)
     }
 
     /// The bytes of the first pages, so many of them.

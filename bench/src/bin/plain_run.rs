@@ -103,7 +103,8 @@ impl Player {
     fn new(page_count: u32, frames: u32) -> Player {
         Player {
             engine: Engine::new(page_count, frames),
-            replies: Vec::new(),
+            // as much as any replies may be; the system gives what is written of it
+            replies: Vec::with_capacity(8 * LONGEST_SCRIPT),
             line: 0,
             bad_line: None,
         }
