@@ -16,6 +16,7 @@ import sys
 import tempfile
 import time
 
+import line_commits
 from run import Failure, find_program
 
 SESSIONS = (1, 8)
@@ -80,11 +81,19 @@ def measure(program, rounds, folder):
 def main():
     if len(sys.argv) < 3:
         sys.exit(__doc__.split("\n\n")[1])
-    if shutil.which("sqlite3") is None:
-        print("SQLite is not measured: sqlite3 is missing.")
-        return
     program, rounds = find_program(sys.argv[1]), int(sys.argv[2])
     folders = sys.argv[3:] or ["build"] + (["/dev/shm"] if os.path.isdir("/dev/shm") else [])
+    if shutil.which("sqlite3") is None:
+        print("The sessions are not measured: sqlite3 is missing.")
+    else:
+        print_table(program, rounds, folders)
+    imgcopy = os.path.join(os.path.dirname(program), "imgcopy")
+    if os.access(imgcopy, os.X_OK):
+        print()
+        line_commits.print_table(imgcopy, rounds, folders)
+
+
+def print_table(program, rounds, folders):
     print(f"Measured on {datetime.date.today()}, {os.cpu_count()} processors.\n")
     rows = [COLUMNS, ["---", "---:", "---:", "---:", "---:"]]
     for folder in folders:

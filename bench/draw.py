@@ -4,7 +4,8 @@
 usage: draw.py TABLE PICTURE
 
 TABLE is a file that has the tables that run.py prints. The rows of the input `uniform` are drawn as lines, for imgcopy
-and for the plain program, and below them those of each other input as bars.
+and for the plain program, and below them those of each other input as bars: the time from start to end, and then that
+of all processors.
 """
 
 import math
@@ -75,18 +76,18 @@ def line_of(table, program, color):
     return Line(program, color, sorted(points))
 
 
-def bars_of(table):
-    """The times of both programs for each other input, by its name."""
+def bars_of(table, column):
+    """The times in this column of both programs for each other input, by its name."""
     bars = {}
     for row in table:
         if row["input"] != "uniform" and row["program"] in COLORS:
-            bars.setdefault(row["input"], {})[row["program"]] = 1000 * float(row["seconds"])
+            bars.setdefault(row["input"], {})[row["program"]] = 1000 * float(row[column])
     return bars
 
 
-def picture(lines, bars, pages):
-    """The text of the picture."""
-    height = HEIGHT + TOP + 3 * BAR * len(bars) + BOTTOM
+def picture(lines, charts, pages):
+    """The text of the picture, with a chart of bars for each title."""
+    height = HEIGHT + sum(height_of(bars) for bars in charts.values())
     points = [point for line in lines for point in line.points]
     across = axis_to(max(x for x, _ in points), LEFT, WIDTH - RIGHT)
     up = axis_to(max(y for _, y in points), HEIGHT - BOTTOM, TOP)
@@ -99,8 +100,15 @@ def picture(lines, bars, pages):
     ]
     for index, line in enumerate(lines):
         parts += [*curve(line, across, up), *legend(line, LEFT + 24, TOP + 24 + 24 * index)]
-    parts += [label(WIDTH / 2, HEIGHT + 30, "Time of the other inputs", size=17), *bar_chart(bars, HEIGHT + TOP)]
+    top = HEIGHT
+    for title, bars in charts.items():
+        parts += [label(WIDTH / 2, top + 30, title, size=17), *bar_chart(bars, top + TOP)]
+        top += height_of(bars)
     return "\n".join([*parts, "</svg>", ""])
+
+
+def height_of(bars):
+    return TOP + 3 * BAR * len(bars) + BOTTOM
 
 
 def bar_chart(bars, top):
@@ -175,8 +183,10 @@ def main(arguments):
             table = rows(file.read())
         lines = [line_of(table, program, color) for program, color in COLORS.items()]
         pages = next(row["pages"] for row in table if row["input"] == "uniform")
+        charts = {"Time of the other inputs": bars_of(table, "seconds"),
+                  "Time of all processors": bars_of(table, "processor seconds")}
         with open(arguments[1], "w", encoding="utf-8") as file:
-            file.write(picture(lines, bars_of(table), pages))
+            file.write(picture(lines, charts, pages))
     except OSError as error:
         sys.exit(f"draw.py: {error}")
 

@@ -18,7 +18,8 @@ from typing import NamedTuple
 from draw import BLACK, COLORS, GRAY, Line, label, legend, mark, stroke
 from run import LONGEST_SCRIPT, MEGABYTE, Failure, Files, Log, Script, find_folder, find_program, parse, run
 
-TOOLS = ("generate", "generate_script", "generate_files", "plain_redo", "plain_run", "plain_restore", "peak_memory")
+TOOLS = ("generate", "generate_script", "generate_files", "plain_redo", "plain_run", "plain_restore",
+         "plain_audit", "peak_memory")
 WIDTH, HEIGHT, LEFT, RIGHT, TOP, BOTTOM = 460, 300, 70, 20, 50, 60
 MOST_PAGES = 65_536
 
@@ -38,7 +39,7 @@ SERIES = (
     Series("records of redo", tuple(2**power for power in range(14, 21)),
            lambda count: Log("uniform", "uniform", count, MOST_PAGES), "redo"),
     Series("archives of restore", (1, 4, 16, 64, 256, 1024), lambda count: Files("restore", count, 256), "restore"),
-    Series("archives of audit", (1, 4, 16, 64, 256, 1024), lambda count: Files("audit", count, 256), "audit"),
+    Series("archives of audit", (1, 4, 16, 64, 256, 1024), lambda count: Files("audit", count, 256, "audit"), "audit"),
     Series("frames of run", tuple(4**power for power in range(9)),
            lambda count: Script("scan", "scan", LONGEST_SCRIPT, MOST_PAGES, count), "run"),
     Series("processors of restore", (1, 2, 3, 4), lambda count: Files("restore", 3, MOST_PAGES), "restore", True),
@@ -50,19 +51,12 @@ class Measured(NamedTuple):
     memory: int
 
 
-def programs_of(series, job, imgcopy):
-    if series.command == "audit":
-        log, _, *archives = job.words[1:]
-        return {"imgcopy": [imgcopy, "audit", log, *archives]}
-    return {"imgcopy": [imgcopy, *job.words], "plain": [job.plain, *job.words]}
-
-
 def measure(series, number, imgcopy, tools, rounds):
     """What each program takes at this number."""
     mine = os.sched_getaffinity(0)
     with tempfile.TemporaryDirectory(dir=find_folder()) as folder:
         job = series.input_of(number).prepare(tools, Path(folder))
-        programs = programs_of(series, job, imgcopy)
+        programs = {"imgcopy": [imgcopy, *job.words], "plain": [job.plain, *job.words]}
         if series.is_of_processors:
             os.sched_setaffinity(0, sorted(mine)[:number])
         try:

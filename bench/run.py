@@ -25,7 +25,7 @@ from model.log_format import PAGE_SIZE, RECORD_SIZE, lsn_of
 
 MEGABYTE = 1e6
 # How many times as long as the plain program each command may take.
-ALLOWED_RATIOS = {"redo": 1.3, "run": 1.5, "restore": 1.3}
+ALLOWED_RATIOS = {"redo": 1.3, "run": 1.5, "restore": 1.3, "audit": 1.3}
 
 
 def log_size(records):
@@ -75,11 +75,12 @@ class Script(NamedTuple):
 
 
 class Files(NamedTuple):
-    """A log with a full copy and incremental ones, of which the last one is restored."""
+    """A log with a full copy and incremental ones, of which the last one is restored, or all are audited."""
 
     name: str
     copies: int
     pages: int
+    command: str = "restore"
 
     def __str__(self):
         return f"the files of {self.copies} copies"
@@ -88,9 +89,12 @@ class Files(NamedTuple):
         said = folder / "names"
         run([tools["generate_files"], str(self.pages), str(self.copies), "1", str(folder)], os.devnull, said, self)
         paths = [folder / name for name in said.read_text().split()]
+        if self.command == "audit":
+            paths = [path for path in paths if path.name != "master"]
         sizes = [path.stat().st_size for path in paths]
-        return Job(self, Path(os.devnull), sizes[0] // RECORD_SIZE - 1, sum(sizes), ["restore", *map(str, paths)],
-                   tools["plain_restore"], sum(sizes) + 2 * PAGE_SIZE * self.pages, PAGE_SIZE * self.pages)
+        known = {"restore": (sum(sizes) + 2 * PAGE_SIZE * self.pages, PAGE_SIZE * self.pages)}
+        return Job(self, Path(os.devnull), sizes[0] // RECORD_SIZE - 1, sum(sizes), [self.command, *map(str, paths)],
+                   tools[f"plain_{self.command}"], *known.get(self.command, ()))
 
 
 class Job(NamedTuple):
@@ -132,16 +136,22 @@ INPUTS = {
         Script("tenth", "accepted", LONGEST_SCRIPT, 65536, 6553),
     ],
     "restore": [Files("restore", 3, 65536)],
+    "audit": [Files("audit", 3, 65536, "audit")],
 }
 
-TOOLS = ["generate", "generate_script", "generate_files", "plain_redo", "plain_run", "plain_restore", "bare_copy",
-         "peak_memory"]
+TOOLS = ["generate", "generate_script", "generate_files", "plain_redo", "plain_run", "plain_restore", "plain_audit",
+         "bare_copy", "peak_memory"]
 # More than the files of any input, with the volumes of two programs.
 NEEDED_ROOM = 512 * 2**20
 
 
 class Result(NamedTuple):
+    """The best of some runs: the time from start to end, the time of all processors, and how many pieces of memory were
+    touched for the first time; and the most memory of one more run."""
+
     seconds: float
+    processor: float
+    touches: int
     memory: int
 
 
@@ -150,7 +160,8 @@ class Failure(Exception):
 
 
 def run(command, source, target, an_input):
-    """Runs the command once from one file to another. Gives its seconds, and what it wrote to standard error.
+    """Runs the command once from one file to another. Gives its seconds, what it wrote to standard error, the seconds of
+    all its threads, the system's among them, and how many pieces of memory were touched for the first time.
 
     Fails unless it ends with status 0.
     """
@@ -160,35 +171,36 @@ def run(command, source, target, an_input):
                    for number, file in enumerate((standard_input, standard_output, standard_error))]
         started = time.perf_counter()
         process = os.posix_spawn(command[0], command, os.environ, file_actions=actions)
-        status = wait(process)
+        status, used = wait(process)
         seconds = time.perf_counter() - started
         standard_error.seek(0)
         said = standard_error.read(1000).decode(errors="replace").strip()
     if status != 0:
         raise Failure(f"{an_input}: {Path(command[0]).name} ended with status {os.waitstatus_to_exitcode(status)}"
                       f" and said {said!r}")
-    return seconds, said
+    return seconds, said, used.ru_utime + used.ru_stime, used.ru_minflt
 
 
 def wait(process):
     try:
-        _, status = os.waitpid(process, 0)
+        _, status, used = os.wait4(process, 0)
     except BaseException:
         os.kill(process, signal.SIGKILL)
         raise
-    return status
+    return status, used
 
 
 def measure(job, programs, tools, rounds, folder):
-    """The best time of each program, whose runs take turns, and its memory in a run of its own."""
+    """The best of each program, whose runs take turns, and its memory in a run of its own."""
     check_same_output(job, programs, folder)
-    seconds = {name: [] for name in programs}
+    runs = {name: [] for name in programs}
     for _ in range(rounds):
         for name, command in programs.items():
-            seconds[name].append(run(command, job.source, os.devnull, job.what)[0])
+            seconds, _, processor, touches = run(command, job.source, os.devnull, job.what)
+            runs[name].append((seconds, processor, touches))
     memory = {name: int(run([tools["peak_memory"], *command], job.source, os.devnull, job.what)[1])
               for name, command in programs.items()}
-    return {name: Result(min(seconds[name]), memory[name]) for name in programs}
+    return {name: Result(*map(min, zip(*runs[name])), memory[name]) for name in programs}
 
 
 def check_same_output(job, programs, folder):
@@ -204,16 +216,18 @@ def check_same_output(job, programs, folder):
 
 
 def table(results):
-    columns = ["input", "records", "pages", "program", "seconds", "MB/s", "ratio to plain", "peak MB", "allowed MB",
-               "met"]
+    columns = ["input", "records", "pages", "program", "seconds", "MB/s", "ratio to plain", "processor seconds",
+               "processor ratio", "first touches", "peak MB", "allowed MB", "met"]
     yield columns
     yield ["---" if name in ("input", "program", "met") else "---:" for name in columns]
     for job, by_program in results:
+        plain = by_program["plain"]
         for name, result in by_program.items():
             speed = job.size / result.seconds / MEGABYTE
-            ratio = result.seconds / by_program["plain"].seconds
+            ratio = result.seconds / plain.seconds
             yield [job.what.name, f"{job.count:,}", f"{job.what.pages:,}", name, f"{result.seconds:.4f}",
-                   f"{speed:,.0f}", f"{ratio:.2f}", f"{result.memory / MEGABYTE:.1f}",
+                   f"{speed:,.0f}", f"{ratio:.2f}", f"{result.processor:.4f}",
+                   f"{result.processor / plain.processor:.2f}", f"{result.touches:,}", f"{result.memory / MEGABYTE:.1f}",
                    *goals(name, ratio, result.memory, job)]
 
 
