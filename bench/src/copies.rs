@@ -154,7 +154,9 @@ impl Copy {
     fn first_left(&self) -> u32 {
         let words = (0..).zip(&self.decided);
         let mut firsts = words.map(|(index, word)| 64 * index + word.trailing_ones());
-        firsts.find(|page| page % 64 != 0 || self.decided[*page as usize / 64] & 1 == 0).unwrap_or(0)
+        firsts
+            .find(|page| page % 64 != 0 || self.decided[*page as usize / 64] & 1 == 0)
+            .unwrap_or(0)
     }
 
     fn header(&self, id: usize) -> [u8; ARCHIVE_HEADER_SIZE] {
@@ -250,7 +252,10 @@ impl Archive {
         if self.left == 0 {
             let is_first = self.at == ARCHIVE_HEADER_SIZE;
             let is_over = !is_first || self.is_over()?;
-            let refused = Refused { when: 0, fault: Fault::CountDiffers };
+            let refused = Refused {
+                when: 0,
+                fault: Fault::CountDiffers,
+            };
             return Ok(if is_over { Ok(None) } else { Err(refused) });
         }
         let is_at_end = start == self.end;
@@ -268,7 +273,10 @@ impl Archive {
         self.at += PAGE_SIZE;
         self.left -= 1;
         if self.left == 0 && !self.is_over()? {
-            return Ok(Err(Refused { when, fault: Fault::CountDiffers }));
+            return Ok(Err(Refused {
+                when,
+                fault: Fault::CountDiffers,
+            }));
         }
         Ok(Ok(self.buffer[start..].first_chunk()))
     }
@@ -347,7 +355,10 @@ impl Archive {
         }
         if fill(&mut self.file, &mut [0])? != 0 {
             let when = self.least - 1;
-            return Ok(Err(Refused { when, fault: Fault::CountDiffers }));
+            return Ok(Err(Refused {
+                when,
+                fault: Fault::CountDiffers,
+            }));
         }
         Ok(Ok(()))
     }
@@ -368,7 +379,9 @@ pub fn pages_of_chain(
 ) -> Result<Vec<u8>, crate::redo::Failure> {
     let mut pages = memory;
     pages.truncate(PAGE_SIZE * page_count as usize);
-    let first = archives.first().map_or(0, |archive| archive.header.page_count);
+    let first = archives
+        .first()
+        .map_or(0, |archive| archive.header.page_count);
     for number in first..page_count {
         let at = PAGE_SIZE * number as usize;
         pages[at..at + PAGE_SIZE].copy_from_slice(&formatted_page(number));

@@ -12,7 +12,8 @@ use crate::store::{Store, Version};
 use crate::volume::{Held, Place, Volume};
 use crate::{
     ABORT, BEGIN, BEGIN_CHKPT, CHKPT_PAGES, CHKPT_TXNS, COMMIT, COMP, END, END_CHKPT, EXTEND,
-    HEADER_SIZE, LONGEST_LOG, MAGIC, MOST_OPEN, MOST_PAGES, MOST_RECORDS, RECORD_SIZE, SLOTS, UPDATE,
+    HEADER_SIZE, LONGEST_LOG, MAGIC, MOST_OPEN, MOST_PAGES, MOST_RECORDS, RECORD_SIZE, SLOTS,
+    UPDATE,
 };
 
 /// In the place of the seat of a transaction that is not open any more.

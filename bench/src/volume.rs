@@ -120,7 +120,10 @@ impl Volume {
     #[inline]
     pub fn begin_page(&mut self, page: u16) {
         if self.lsn(page) == 0 {
-            let (page, claims) = (usize::from(page) * PAGE_SIZE, usize::from(page) << SLOT_BITS);
+            let (page, claims) = (
+                usize::from(page) * PAGE_SIZE,
+                usize::from(page) << SLOT_BITS,
+            );
             self.bytes[page..page + PAGE_SIZE].fill(0);
             self.claims[claims..claims + (1 << SLOT_BITS)].fill(0);
         }
@@ -176,14 +179,7 @@ impl Volume {
 
     /// Makes a change, and gives the slot's number before it.
     #[inline]
-    pub fn put(
-        &mut self,
-        page: u16,
-        place: Place,
-        kind: ChangeKind,
-        number: u64,
-        lsn: u64,
-    ) -> u64 {
+    pub fn put(&mut self, page: u16, place: Place, kind: ChangeKind, number: u64, lsn: u64) -> u64 {
         self.lsns[usize::from(page)] = lsn as u32;
         let slot = &mut self.bytes[place.at()..place.at() + 8];
         let before = word(slot);

@@ -129,7 +129,12 @@ fn undo(pages: &mut [Page], chains: &Chains, end: u64) {
     }
     changes.sort_by_key(|(pending, _)| pending.lsn);
     for (pending, index) in changes.into_iter().rev() {
-        let Change { page, slot, kind, number } = pending.undo();
+        let Change {
+            page,
+            slot,
+            kind,
+            number,
+        } = pending.undo();
         let page = &mut pages[usize::from(page)];
         put(page, slot, kind == ChangeKind::Add, number, lsn as u32);
         left[index] -= 1;

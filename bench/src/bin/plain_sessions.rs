@@ -35,7 +35,8 @@ impl Case {
             changes: changes.parse().ok()?,
             reads: reads.parse().ok()?,
         };
-        let is_possible = (1..=MOST_PAGES).contains(&case.pages) && (1..=64).contains(&case.sessions);
+        let is_possible =
+            (1..=MOST_PAGES).contains(&case.pages) && (1..=64).contains(&case.sessions);
         is_possible.then_some(case)
     }
 }
@@ -82,7 +83,9 @@ fn copy(engine: &Mutex<Engine>, case: &Case) -> Result<(), Refusal> {
     };
     thread::scope(|scope| {
         let workers: Vec<_> = (0..case.workers).map(|_| scope.spawn(take)).collect();
-        workers.into_iter().try_for_each(|worker| worker.join().unwrap())
+        workers
+            .into_iter()
+            .try_for_each(|worker| worker.join().unwrap())
     })?;
     engine.lock().unwrap().copies.seal(id)?;
     Ok(())
