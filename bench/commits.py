@@ -25,6 +25,8 @@ SESSIONS = (1, 8)
 ON_DISK, IN_MEMORY = (2_000, 800), (200, 16_000)
 # A volume with a page for each session and no copy. A transaction of one change and no read has three calls.
 PAGES, WORKERS, CHANGES, READS, CALLS = 64, 0, 1, 0, 3
+# A run takes some ten seconds on a disk.
+MOST_ROUNDS_BY_LINES = 3
 COLUMNS = ["folder", "sessions", "imgcopy, commits a second", "SQLite, commits a second", "ratio"]
 SETUP = "PRAGMA journal_mode=WAL; CREATE TABLE t(a INTEGER PRIMARY KEY, b INTEGER);"
 
@@ -90,7 +92,7 @@ def main():
     imgcopy = os.path.join(os.path.dirname(program), "imgcopy")
     if os.access(imgcopy, os.X_OK):
         print()
-        line_commits.print_table(imgcopy, rounds, folders)
+        line_commits.print_table(imgcopy, min(rounds, MOST_ROUNDS_BY_LINES), folders)
 
 
 def print_table(program, rounds, folders):
@@ -107,5 +109,5 @@ def print_table(program, rounds, folders):
 if __name__ == "__main__":
     try:
         main()
-    except Failure as why:
+    except (Failure, OSError) as why:
         sys.exit(f"commits.py: {why}")
