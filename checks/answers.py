@@ -20,6 +20,7 @@ from functools import lru_cache
 from itertools import repeat
 from pathlib import Path
 
+from checks.manifest_text import WrongManifest, without_manifest
 from checks.savepoints import DifferentWays, compare_ways
 from model import audit_rows as model_audit_rows
 from model import file_rows as model_file_rows
@@ -90,12 +91,17 @@ class Checker:
             self.differences.append(f"{what}: {difference(given, wanted, text)}")
 
     def check_run(self, what, script, wanted):
-        """Runs the script, and leaves what it saves in the folder."""
+        """Runs the script, and leaves what it saves in the folder, but for the manifest."""
         self.empty_folder()
         self.check(what, wanted.answer, [*run_words(script), "--save", "."], script.text)
         if self.program is None:
             return
         given = {path.name: path.read_bytes() for path in self.saved.iterdir()}
+        try:
+            given = without_manifest(given) if wanted.files else given
+        except WrongManifest as wrong:
+            self.differences.append(f"{what}: {wrong}")
+        (self.saved / "manifest").unlink(missing_ok=True)
         if given != wanted.files:
             self.differences.append(f"{what}: {difference_of_files(given, wanted.files)}")
             self.empty_folder()

@@ -133,6 +133,7 @@ check_audit() {
 check_audits() {
     "$program" run --force --save="$work/day" --pages=3 < "$examples/day.script" > "$work/out" ||
         fail "run of the day: $?"
+    rm "$work/day/manifest" || fail "run of the day: there is no manifest"
     check_audit 0 sound "" log copy-1 copy-2 copy-3
     check_audit 0 sound "" log copy-1
     check_audit 1 "E37 ChainBroken 0" "imgcopy: no image copy is named: *" log

@@ -117,7 +117,6 @@ def spoiled(folders, folder):
     """A flipped bit, and a copy that lacks the one it stands on."""
     day = folders.place / "day"
     day.mkdir()
-    (day / "manifest").touch()
     script = [*FIRST, "ckpt", *["gather"] * 6, "endckpt", "full", "take 1 0", "take 1 1", "take 1 2", "seal 1"]
     done = folders.run("run", "--pages", str(PAGES), "--save", day, lines=script)
     folders.wants("a save", done.returncode == 0, done)

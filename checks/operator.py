@@ -258,6 +258,7 @@ def main(arguments):
             check_strict(program, day)
             check_output(program, names)
             check_terminal(program, names)
+            (Path(place) / "manifest").unlink()
             check_audits(program)
             check_many_pages(program)
             check_reasons(program)

@@ -9,7 +9,7 @@ older ones, also a volume and its log into one folder or into two. Of the calls 
   written under a name of an older file, and nothing is cut or removed.
 - Behind the last rename in a folder the folder is synced. Of a volume and its log both are synced before one is renamed;
   then the log is renamed, its folder is synced, and the volume is renamed.
-- No file and no folder is synced once more.
+- No file and no folder is synced once more, but the folder of a save, before its manifest is made.
 
 Then the power fails behind each call, by the rules of bank_calls.py: each name has its old file or its new one, whole; no
 new volume is there beside an old log; and once the command has ended all are new. Then each call fails, before or after it
@@ -27,6 +27,7 @@ from pathlib import Path
 from typing import NamedTuple
 
 from checks.bank_calls import Disk, Trace
+from checks.manifest_text import NAME, WrongManifest, without_manifest
 from checks.unsaved import script_of, text_of
 
 PAGES, DRAWS = 24, 6
@@ -34,6 +35,7 @@ MOST_SECONDS = 60
 UNFINISHED = ".unfinished-"
 ERROR, WHY = 5, "Input/output error (os error 5)"
 SAVED = ("log", "master", "copy-1", "copy-2", "copy-3")
+NEW_MANIFEST = b"the manifest of the saved files"
 
 
 class Failure(Exception):
@@ -102,13 +104,14 @@ class Checker:
         self.plain("run", "--pages", PAGES, "--save", self.day, data=self.script)
         log = (self.day / "log").read_bytes()
         files = [str(self.day / name) for name in SAVED]
-        self.new = {name: (self.day / name).read_bytes() for name in SAVED}
+        self.new = {name: (self.day / name).read_bytes() for name in SAVED} | {NAME: NEW_MANIFEST}
         self.new["v"] = self.plain("restore", *files)
         self.new["r"] = self.plain("redo", data=log)
         self.plain("restore", "-o", place / "volume", "--log-out", place / "after", *files)
         self.new["l"] = (place / "after").read_bytes()
         self.cases = [
-            Case("run --save", ["run", "--pages", PAGES, "--force", "--save", self.top], self.script, list(SAVED), False,
+            Case("run --save", ["run", "--pages", PAGES, "--force", "--save", self.top], self.script,
+                 [*SAVED, NAME], False,
                  lambda path: f"{self.top}/{path}" if path != "." else f"{self.top}"),
             Case("redo -o", ["redo", "-o", self.top / "r"], log, ["r"], False, self.named("r")),
             Case("restore -o", ["restore", "-o", self.top / "v", *files], b"", ["v"], False, self.named("v")),
@@ -147,7 +150,16 @@ class Checker:
         return self.new[os.path.basename(path)]
 
     def files(self):
-        return {str(path.relative_to(self.top)): path.read_bytes() for path in self.top.rglob("*") if path.is_file()}
+        return self.marked({str(path.relative_to(self.top)): path.read_bytes() for path in self.top.rglob("*")
+                            if path.is_file()})
+
+    def marked(self, files):
+        """The files, with a mark in the place of a manifest of the new ones."""
+        try:
+            without_manifest({name: self.new[name] for name in SAVED} | {NAME: files.get(NAME)})
+        except WrongManifest:
+            return files
+        return files | {NAME: NEW_MANIFEST}
 
     def folders(self, case):
         return {os.path.dirname(path) or "." for path in case.paths} | {"."}
@@ -209,7 +221,8 @@ def check_folders(case, events, order):
         syncs = places(events, "sync", folder)
         if not syncs or syncs[-1] < max(at):
             raise Failure(f"{case.what}: folder {folder} is synced {syncs}, and its names change {at}")
-        see(f"{case.what}, syncs of folder {folder}", len(syncs), len(at) if case.is_pair else 1)
+        wanted = len(at) if case.is_pair else 2 if NAME in case.paths else 1
+        see(f"{case.what}, syncs of folder {folder}", len(syncs), wanted)
 
 
 def check_losses(checker, case, data):
@@ -223,7 +236,7 @@ def check_losses(checker, case, data):
         for call in trace.calls[:cut]:
             disk.take(call)
         for _ in range(DRAWS):
-            files = disk.files_after_loss(draw)
+            files = checker.marked(disk.files_after_loss(draw))
             is_new = [files.get(path) == checker.wanted(path) for path in case.paths]
             for path, new in zip(case.paths, is_new):
                 if not new and files.get(path) != before[path]:

@@ -104,7 +104,9 @@ def standing(writer):
     yield from (("v", writer.log, "this is a log"), ("v", writer.log[:7] + b"1" + writer.log[8:], "this is a log"),
                 ("v", b"AIMGLOG9", "this is a log"), ("log", writer.log[:64], "this is a log"),
                 ("copy-1", writer.log, "this is a log"), ("v", master, "this is a master record"),
-                ("v", archive, "this is an image copy"), ("log", archive[:100], "this is an image copy"))
+                ("v", archive, "this is an image copy"), ("log", archive[:100], "this is an image copy"),
+                ("v", (writer.day / "manifest").read_bytes(), "this is a manifest"),
+                ("manifest", b"# imgcopy manifest 9", "this is a manifest"))
     for data in (b"", b"AIMGLO", bytes(8192)):
         yield from (("log", data, "this may be a log, by its name"),
                     ("master", data, "this may be a master record, by its name"),
@@ -112,7 +114,7 @@ def standing(writer):
 
 
 def replaceable():
-    yield from (("v", None), ("v", b""), ("v", b"old"), ("log", VOLUME), ("v", VOLUME), ("copy-01", b"old"),
+    yield from (("v", None), ("v", b""), ("v", b"old"), ("v", b"# imgcopy manifest"), ("log", VOLUME), ("v", VOLUME), ("copy-01", b"old"),
                 ("copy-", b"old"), ("log.old", b"old"))
 
 
@@ -176,7 +178,8 @@ def save(writer, *options):
 
 def check_saves(writer):
     for name, data in (*((name, (writer.day / name).read_bytes()) for name in FILES), ("log", b""), ("master", b"x"),
-                       ("copy-1024", b"x"), ("copy-9", writer.log)):
+                       ("copy-1024", b"x"), ("copy-9", writer.log), ("manifest", (writer.day / "manifest").read_bytes()),
+                       ("manifest", b"x")):
         writer.fill()
         (writer.folder / "out" / name).write_bytes(data)
         done, before = save(writer), content(writer.folder)
@@ -184,10 +187,11 @@ def check_saves(writer):
             raise Failure(f"run --save beside {name}: {done.stdout[:60]!r}, {done.stderr[:200]!r}")
         writer.see(f"run --save beside {name}", done, 2, done.stderr.decode(), before)
         done = save(writer, "--force")
-        if done.returncode or {f"out/{name}": data for name, data in content(writer.day).items()}.items() - \
+        if done.returncode or {f"out/{name}": (writer.day / name).read_bytes() for name in FILES}.items() - \
                 content(writer.folder).items():
             raise Failure(f"run --save --force beside {name}: status {done.returncode}, or other files")
-    for name, data in (("volume", VOLUME), ("copy-0", b"x"), ("copy-1025", b"x"), ("log.old", writer.log)):
+    for name, data in (("volume", VOLUME), ("copy-0", b"x"), ("copy-1025", b"x"), ("log.old", writer.log),
+                       ("manifest", b"")):
         writer.fill()
         (writer.folder / "out" / name).write_bytes(data)
         writer.see(f"run --save beside {name}", save(writer), 0, "")
@@ -352,7 +356,7 @@ def check_leftovers(writer):
     done = writer.run("run", "--pages", 3, "--save", "out", "--force", data=writer.script)
     writer.see("run --save behind one that was killed", done, 0, left("v.unfinished-1", removed=False))
     writer.see("redo -o behind one that was killed", writer.write("redo -o", "out/v"), 0, left("v.unfinished-1"))
-    if sorted(content(writer.folder / "out")) != sorted([*FILES, "v"]):
+    if sorted(content(writer.folder / "out")) != sorted([*FILES, "manifest", "v"]):
         raise Failure(f"what is left: {sorted(content(writer.folder / 'out'))}")
 
 

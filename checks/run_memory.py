@@ -19,6 +19,7 @@ from itertools import repeat
 from pathlib import Path
 
 from model.log_format import lsn_of
+from checks.manifest_text import NAME, WrongManifest, without_manifest
 from checks.memory import Case, Failure, check, program_and_library, refuse_each
 from checks.memory_scripts import BAD_SCRIPTS, CHAIN, SAVEPOINTS, SCRIPTS
 from checks.answers import difference, difference_of_files
@@ -26,6 +27,7 @@ from model.recovery import Answer, encode_pages, fault_lines, redo_all, undo_rec
 from model.scripts import CALLS, OUT_OF_MEMORY, Ran, read_script, run
 
 TOLD = f"{OUT_OF_MEMORY}\n".encode()
+RIGHT = b"the manifest of the other files"
 NEED_NO_MEMORY = {"read", "force", "wend", "seal", "drop", "save"}
 NEED_MEMORY = CALLS.keys() - NEED_NO_MEMORY
 AS_EVER, NOT_PLAYED = "a run goes on as ever", "a run plays nothing"
@@ -56,12 +58,13 @@ def ends(script):
 
 
 def parts(files):
-    """The files before one that is not there, or is empty."""
+    """The files before one that is not there, or is empty. The last one is their manifest."""
     saved = {}
     for name in files:
         yield dict(saved)
         yield saved | {name: b""}
         saved[name] = files[name]
+    yield saved
 
 
 def refuse_run(program, library, script):
@@ -73,8 +76,8 @@ def refuse_run(program, library, script):
         into.mkdir()
         case = Case(["run", "--pages", str(script.pages), "--save", str(into)], source, ())
         for number, answer, refused in refuse_each(program, library, case):
-            given = Answer(*answer), take_files(into)
-            end = next((end for end in allowed if (end[1].answer, end[1].files) == given), None)
+            given = Answer(*answer), marked(take_files(into))
+            end = next((end for end in allowed if (end[1].answer, all_files(end[1])) == given), None)
             if end is None or not refused and end[0] != AS_EVER:
                 raise Failure(f"{script.name}, without allocation {number}: {describe(script, *given)}")
             name, ran = end
@@ -82,6 +85,19 @@ def refuse_run(program, library, script):
             if ran.engine is not None:
                 left[ran.engine.forced, *ran.files.values()] = ran
     return counts, list(left.values())
+
+
+def all_files(ran):
+    """The files of a run. Where all are there, so is their manifest."""
+    return ran.files if ran.engine is None else ran.files | {NAME: RIGHT}
+
+
+def marked(files):
+    """The files, with a mark in the place of a manifest that is that of the others."""
+    try:
+        return without_manifest(files) | {NAME: RIGHT}
+    except WrongManifest:
+        return files
 
 
 def take_files(folder):

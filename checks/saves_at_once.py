@@ -20,6 +20,7 @@ from collections import Counter
 from pathlib import Path
 
 from model.scripts import run
+from checks.manifest_text import WrongManifest, without_manifest
 from checks.unsaved import Failure, fresh, script_of, text_of
 
 ROUNDS = 100
@@ -56,7 +57,7 @@ def check_round(runs, folder, count, options, counts):
         if child.returncode == 0 and text == b"" or child.returncode == 2 and text in refusals:
             continue
         raise Failure(f"{count} saves at once: status {child.returncode}, {text[:200]!r}")
-    given = {path.name: path.read_bytes() for path in folder.iterdir()}
+    given = without_manifest({path.name: path.read_bytes() for path in folder.iterdir()})
     if given not in [runs.files[number] for number in range(count) if done[number]]:
         raise Failure(f"{count} saves at once: the files are of no run that ended with status 0")
     if not options and sum(done) != 1:
@@ -85,14 +86,15 @@ def check_lock(runs, folder):
 def check_links(runs, folder):
     """Links stand where an unfinished file would be made, and where a file is to be."""
     outside = folder.with_name("outside")
-    for name in ("log", "master", "copy-1", "log.unfinished-1", "copy-3.unfinished-1"):
+    for name in ("log", "master", "copy-1", "manifest", "log.unfinished-1", "copy-3.unfinished-1"):
         for target in (outside, folder / "nothing"):
             fresh(folder)
             outside.write_bytes(b"outside")
             (folder / name).symlink_to(target)
             child = runs.start(0, folder, "--force")
             said = child.communicate(timeout=MOST_SECONDS)[1].decode()
-            given = {path.name: path.read_bytes() for path in folder.iterdir() if not path.is_symlink()}
+            files = {path.name: path.read_bytes() for path in folder.iterdir() if not path.is_symlink()}
+            given = without_manifest(files)
             if child.returncode != 0 or given != runs.files[0] or outside.read_bytes() != b"outside":
                 raise Failure(f"a link in the place of {name}: status {child.returncode}, {sorted(given)}")
             if ("unfinished" in name) != (f"imgcopy: {folder}/{name}: left by" in said):
@@ -116,7 +118,7 @@ def main(arguments):
             check_links(runs, folder)
         if rounds >= ROUNDS and not sum(counts.values()):
             raise Failure("no save met another one")
-    except (Failure, OSError, subprocess.SubprocessError) as failure:
+    except (Failure, WrongManifest, OSError, subprocess.SubprocessError) as failure:
         sys.exit(f"saves_at_once.py: {failure}")
     print(f"ok saves_at_once: {rounds} rounds, the files are those of one run each time, {sum(counts.values())} saves were"
           " refused, and no link was followed")

@@ -2,7 +2,7 @@
 
 usage: python3 -m checks.unsaved PROGRAM [KILLS]
 
-A run saves its files over those of an older run: on a file system that is full, on one that is read-only, where a file
+A run saves its files and their manifest over those of an older run: on a file system that is full, on one that is read-only, where a file
 may not be longer than so many bytes, where a folder is in the way, and where the program is killed as it writes, KILLS
 times, 60 where none is told. Each time there is a file up to which all are new, and from which on all are old, byte for
 byte; the first line of the answer has how many bytes of that file went out, the second one names it, and the third one
@@ -22,12 +22,15 @@ import time
 from collections import Counter
 from pathlib import Path
 
+from checks.manifest_text import NAME, WrongManifest, manifest_of, without_manifest
 from model.scripts import run
 
 KILLS = 60
 PAGES, MANY_PAGES = 24, 1000
 MOST_SECONDS = 60
 UNFINISHED = ".unfinished-"
+OLD_HEAD = b"# imgcopy manifest 1 database " + b"0" * 32 + b"\n"
+NEW = b"the manifest of the new files"
 
 
 class Failure(Exception):
@@ -49,7 +52,7 @@ def text_of(lines):
 
 
 class Saver:
-    """A run that saves five files over those of an older one, which had only so many copies."""
+    """A run that saves five files and their manifest over those of an older one, which had only so many copies."""
 
     def __init__(self, program, pages, copies):
         self.program, self.pages = program, pages
@@ -59,10 +62,12 @@ class Saver:
         self.ran = run(self.text, pages)
         if len(self.ran.files) != 5 or any(self.old.get(name) == data for name, data in self.ran.files.items()):
             raise Failure("the runs do not save five files, which all differ")
+        self.old[NAME] = manifest_of(self.old, OLD_HEAD)
+        self.new = self.ran.files | {NAME: NEW}
 
     def state(self, count):
         """The files, if so many of them are new."""
-        new = dict(list(self.ran.files.items())[:count])
+        new = dict(list(self.new.items())[:count])
         return {name: data for name, data in (self.old | new).items()}
 
     def put_old(self, folder):
@@ -71,6 +76,13 @@ class Saver:
             path.unlink()
         for name, data in self.old.items():
             (folder / name).write_bytes(data)
+
+    def marked(self, files):
+        """The files, with a mark in the place of the new manifest."""
+        try:
+            return files | {NAME: NEW} if without_manifest(self.ran.files | {NAME: files.get(NAME)}) else files
+        except WrongManifest:
+            return files
 
     def words(self, folder):
         return [self.program, "run", "--pages", str(self.pages), "--save", str(folder), "--force"]
@@ -85,9 +97,9 @@ class Saver:
 
     def first_old(self, folder, what):
         """How many of the files are new. Those behind are old, and no file is anything else."""
-        given = {path.name: path.read_bytes() for path in folder.iterdir()
-                 if path.is_file() and UNFINISHED not in path.name}
-        for count in range(len(self.ran.files) + 1):
+        given = self.marked({path.name: path.read_bytes() for path in folder.iterdir()
+                             if path.is_file() and UNFINISHED not in path.name})
+        for count in range(len(self.new) + 1):
             if given == {name: data for name, data in self.state(count).items() if not (folder / name).is_dir()}:
                 return count
         raise Failure(f"{what}: a file is neither the old one nor the new one")
@@ -98,8 +110,8 @@ class Saver:
         if (done.returncode, done.stdout) != (0, self.ran.answer.output):
             raise Failure(f"{what}, and then all is well: status {done.returncode}, {done.stderr[:80]!r}")
         left = sorted(path.name for path in folder.iterdir() if UNFINISHED in path.name)
-        given = {path.name: path.read_bytes() for path in folder.iterdir() if path.name not in left}
-        if given != self.state(len(self.ran.files)):
+        given = self.marked({path.name: path.read_bytes() for path in folder.iterdir() if path.name not in left})
+        if given != self.state(len(self.new)):
             raise Failure(f"{what}, and then all is well: the files are not those of the run")
         told = [line for line in done.stderr.decode().splitlines() if "left by a command" in line]
         if sorted(line.split(": ")[1] for line in told) != [f"{folder}/{name}" for name in left]:
@@ -109,7 +121,7 @@ class Saver:
         """The run has ended at a file, which it names, with so many bytes of it."""
         done = done or self.play(folder)
         first, second, third, *_ = [*done.stderr.decode(errors="replace").splitlines(), "", "", ""]
-        names = list(self.ran.files)
+        names = list(self.new)
         stopped = next((name for name in names if second.startswith(f"imgcopy: {folder}/{name}: {reason}")), None)
         if done.returncode != 2 or done.stdout != self.ran.answer.output or stopped is None:
             raise Failure(f"{what}: status {done.returncode}, standard error {first!r}, {second!r}")
@@ -149,7 +161,7 @@ def check_limits(saver, folder):
 
 def check_ways(saver, folder):
     """A folder stands where a file is to be, or the folder is a file."""
-    for name in saver.ran.files:
+    for name in saver.new:
         saver.put_old(fresh(folder))
         (folder / name).unlink(missing_ok=True)
         (folder / name).mkdir()
@@ -163,7 +175,7 @@ def check_ways(saver, folder):
     if done.returncode != 2 or not done.stderr.startswith(b"E29 WriteFault 0\n") or folder.read_bytes() != b"":
         raise Failure(f"a file in the place of the folder: status {done.returncode}, {done.stderr[:80]!r}")
     folder.unlink()
-    return len(saver.ran.files) + 1
+    return len(saver.new) + 1
 
 
 def mount(folder, options):

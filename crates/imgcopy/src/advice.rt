@@ -203,7 +203,7 @@ fn tell_why_unsaved(
 }
 
 /// The names of the files of a run before this one, or of all, each behind a space.
-fn new_names(
+pub fn new_names(
     alloc: Global,
     stopped: Option<SavedName>,
     retired: &Retired,

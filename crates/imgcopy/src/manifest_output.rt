@@ -1,67 +1,103 @@
-//! The manifest that a save leaves in a folder that has one.
+//! The manifest that a save leaves beside its files.
 
+use crate::advice::new_names;
 use crate::manifests::MANIFEST;
-use crate::output::tell;
+use crate::output::{tell, tell_kept};
 use checked_files::{ManifestText, manifest_of};
 use copy_coverage::Retired;
-use manifest::DatabaseName;
+use manifest::{DatabaseName, Manifest};
 use page_core::FaultName;
-use saved_files::put_and_store;
+use saved_files::{FileFault, PutFault, PutStoredFault, put_and_store};
 use std::alloc::AllocError;
 use std::io::{ErrorKind, Read};
-use std::path::Path;
 use std::{fs, io};
-use system_files::{Notes, SystemFolder};
+use system_files::{Escaped, Notes, SystemFolder};
 
 /// Where the system gives random bytes.
 const RANDOM: &str = "/dev/urandom";
 
-/// Whether a folder has a manifest, be it an empty file that is to become one. Of what cannot be
-/// looked at it is said that it has.
-pub fn has_manifest(rt: &HostRuntime, folder: &str) -> Result<bool, AllocError> {
-    let place = Path::new(folder).join(rt.alloc(), MANIFEST)?;
-    match fs::exists(rt, place.as_path()) {
-        Ok(is_there) => Ok(is_there),
-        Err(error) if error.kind() == ErrorKind::OutOfMemory => Err(AllocError),
-        Err(_) => Ok(true),
-    }
+/// Whether a manifest stands in a folder that a save would replace, which is told then. An empty
+/// file is one that is still to be written.
+pub fn tells_manifest(rt: &HostRuntime, folder: &str) -> Result<bool, AllocError> {
+    let place = format!(in rt.alloc(); "{folder}/{MANIFEST}")?;
+    let why = match fs::metadata(rt, place.as_str()) {
+        Ok(there) if there.is_file() && there.len() == 0 => return Ok(false),
+        Ok(_) => "this may be a manifest, by its name",
+        Err(error) => match error.kind() {
+            ErrorKind::NotFound | ErrorKind::NotADirectory => return Ok(false),
+            ErrorKind::OutOfMemory => return Err(AllocError),
+            _ => "this cannot be read, and may be a manifest",
+        },
+    };
+    tell_kept(rt, place.as_str(), &why);
+    Ok(true)
 }
 
-/// Puts the manifest in place of the files that were saved in a folder, and says whether that went
-/// well. Why it did not is told. Each run is a database of its own, whose name is drawn.
-pub fn put_manifest(
-    rt: &HostRuntime,
-    there: &mut SystemFolder<'_>,
-    folder: &str,
-    notes: &Notes,
-    retired: &Retired,
-) -> bool {
+/// The manifest of what a script left. Each run is a database of its own, whose name is drawn. None
+/// where there is none, which is told.
+pub fn drawn_manifest(rt: &HostRuntime, retired: &Retired) -> Option<Manifest> {
     let database = match drawn_name(rt) {
         Ok(database) => database,
         Err(error) => {
             tell(rt, RANDOM, &error);
-            return false;
+            return None;
         }
     };
-    let Ok(manifest) = manifest_of(rt.alloc(), database, retired) else {
-        let _ = eprintln!(rt; "{}", FaultName::OutOfMemory);
-        return false;
-    };
-    let mut text = ManifestText {
-        manifest: &manifest,
-    };
-    if put_and_store(there, rt.alloc(), MANIFEST, &mut text).is_ok() {
-        return true;
+    match manifest_of(rt.alloc(), database, retired) {
+        Ok(manifest) => Some(manifest),
+        Err(_) => {
+            let _ = eprintln!(rt; "{}", FaultName::OutOfMemory);
+            None
+        }
     }
-    match notes.error() {
-        Some(error) => tell(rt, folder, &error),
-        None => tell(rt, folder, &"its manifest was not written"),
-    }
-    false
 }
 
 fn drawn_name(rt: &HostRuntime) -> io::Result<DatabaseName> {
     let mut bytes = [0; 16];
     fs::open(rt, RANDOM)?.read_exact(&mut bytes)?;
     Ok(DatabaseName(bytes))
+}
+
+/// Puts the manifest in place beside the files that were saved in a folder, and says whether that
+/// went well. Why it did not is told, and which names have their new file.
+pub fn put_manifest(
+    rt: &HostRuntime,
+    there: &mut SystemFolder<'_>,
+    folder: &str,
+    notes: &Notes,
+    retired: &Retired,
+    manifest: &Manifest,
+) -> bool {
+    let mut text = ManifestText { manifest };
+    let fault = match put_and_store(there, rt.alloc(), MANIFEST, &mut text) {
+        Ok(()) => return true,
+        Err(fault) => fault,
+    };
+    let _ = rt.eprintln(&line_of(&fault));
+    let is_placed = matches!(fault, PutStoredFault::Unstored(_));
+    tell_unput(rt, folder, is_placed, notes, retired);
+    false
+}
+
+/// The fault that is told of a manifest that is not in its place, or may not stay there.
+fn line_of(fault: &PutStoredFault<FileFault>) -> FileFault {
+    match fault {
+        PutStoredFault::Unput(PutFault::Unmade(fault))
+        | PutStoredFault::Unput(PutFault::Unwritten(fault))
+        | PutStoredFault::Unput(PutFault::Unplaced(fault))
+        | PutStoredFault::Unstored(fault) => *fault,
+    }
+}
+
+fn tell_unput(rt: &HostRuntime, folder: &str, is_placed: bool, notes: &Notes, retired: &Retired) {
+    let place = Escaped(folder);
+    let _ = match notes.error() {
+        Some(error) if is_placed => eprintln!(rt; "imgcopy: {place}: {error}"),
+        Some(error) => eprintln!(rt; "imgcopy: {place}/{MANIFEST}: {error}"),
+        None => eprintln!(rt; "imgcopy: {place}/{MANIFEST}: not saved"),
+    };
+    if let Ok(names) = new_names(rt.alloc(), None, retired) {
+        let last = if is_placed { " manifest" } else { "" };
+        let _ = eprintln!(rt; "imgcopy: {place}: these have their new file already:{names}{last}");
+    }
 }

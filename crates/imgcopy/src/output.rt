@@ -5,9 +5,12 @@ use crate::reasons::{Named, STANDARD_INPUT};
 use page_core::FaultName;
 use std::fmt::Display;
 use std::fs;
-use std::io::ErrorKind;
+use std::io::{ErrorKind, Read};
 use std::path::Path;
 use system_files::{ClaimFault, Escaped, FileIdentity, Kept, Notes, kept_at};
+
+/// With what a manifest begins, in any format.
+const MANIFEST_BEGIN: [u8; 19] = *b"# imgcopy manifest ";
 
 /// What the command reads that writes an output.
 #[derive(Clone, Copy)]
@@ -32,6 +35,8 @@ pub enum OutputFault {
     Irregular,
     /// What has the name is kept.
     Kept(Kept),
+    /// It is a manifest, which is kept, too.
+    Manifest,
     /// Another one has the log open that has the name.
     InUse,
     /// The folder was not claimed.
@@ -56,10 +61,22 @@ pub fn look(
     if let Some(kept) = kept_at(rt, path, name) {
         return Err(OutputFault::Kept(kept));
     }
+    if is_manifest(rt, path) {
+        return Err(OutputFault::Manifest);
+    }
     if is_input(rt, path, &limits.inputs) {
         return Err(OutputFault::Kept(Kept::Input));
     }
     Ok(())
+}
+
+/// Whether a file begins as a manifest does.
+fn is_manifest(rt: &HostRuntime, path: &str) -> bool {
+    let Ok(mut file) = fs::open(rt, path) else {
+        return false;
+    };
+    let mut first = [0; 19];
+    file.read_exact(&mut first).is_ok() && first == MANIFEST_BEGIN
 }
 
 /// Whether a path leads to a file that the command reads.
@@ -82,7 +99,8 @@ fn is_input(rt: &HostRuntime, path: &str, inputs: &Inputs<'_>) -> bool {
 pub fn tell_fault(rt: &impl Eprint, path: &str, fault: &OutputFault, notes: &Notes) {
     match fault {
         OutputFault::Irregular => tell(rt, path, &"this is no regular file"),
-        OutputFault::Kept(kept) => tell_kept(rt, path, *kept),
+        OutputFault::Kept(kept) => tell_kept(rt, path, kept),
+        OutputFault::Manifest => tell_kept(rt, path, &"this is a manifest"),
         OutputFault::InUse => tell(rt, path, &"another one has this log open"),
         OutputFault::Folder(fault) => {
             let folder = parts_of(path).map_or(path, |(folder, _)| folder);
@@ -96,7 +114,7 @@ pub fn tell_fault(rt: &impl Eprint, path: &str, fault: &OutputFault, notes: &Not
 }
 
 /// Tells that a file is not replaced.
-pub fn tell_kept(rt: &impl Eprint, path: &str, kept: Kept) {
+pub fn tell_kept(rt: &impl Eprint, path: &str, kept: &impl Display) {
     let _ = eprintln!(rt; "{} 0", FaultName::WriteFault);
     let path = Escaped(path);
     let _ = eprintln!(rt; "imgcopy: {path}: {kept}: --force replaces it");

@@ -1,8 +1,8 @@
-//! The files that `run --save` leaves in a folder.
+//! The files that `run --save` leaves in a folder, and their manifest.
 
 use crate::advice::{tell_stale, tell_unsaved};
 use crate::leftovers::tell_left;
-use crate::manifest_output::{has_manifest, put_manifest};
+use crate::manifest_output::{drawn_manifest, put_manifest, tells_manifest};
 use crate::output::{tell, tell_kept};
 use copy_coverage::Retired;
 use copy_vault::{CopyId, MAX_COPIES};
@@ -35,8 +35,8 @@ impl Saving<'_> {
         }
     }
 
-    /// Saves what a script left, and says whether all went well. Why it did not is told. A folder
-    /// that has a manifest gets that of the new files, behind them.
+    /// Saves what a script left, and their manifest behind them, and says whether all went well. Why
+    /// it did not is told.
     pub fn save(&self, rt: &HostRuntime, retired: &Retired) -> bool {
         let (folder, notes) = (self.folder, Notes::new());
         let mut there = SystemFolder::new(rt, rt.alloc(), folder, &notes).guarded(self.force);
@@ -54,8 +54,7 @@ impl Saving<'_> {
         if !self.force && tells_kept(rt, folder) {
             return false;
         }
-        let Ok(has_manifest) = has_manifest(rt, folder) else {
-            let _ = eprintln!(rt; "{}", FaultName::OutOfMemory);
+        let Some(manifest) = drawn_manifest(rt, retired) else {
             return false;
         };
         if let Err(fault) = save_files(&mut there, rt.alloc(), retired) {
@@ -63,7 +62,7 @@ impl Saving<'_> {
             tell_unsaved(rt, &there, folder, &fault, retired, &notes);
             return false;
         }
-        if has_manifest && !put_manifest(rt, &mut there, folder, &notes, retired) {
+        if !put_manifest(rt, &mut there, folder, &notes, retired, &manifest) {
             return false;
         }
         tell_stale(rt, rt.alloc(), folder, retired);
@@ -79,12 +78,16 @@ fn tell_no_folder(rt: &impl Eprint) {
 
 /// Whether something stands in a folder that a save would replace, which is told then.
 fn tells_kept(rt: &HostRuntime, folder: &str) -> bool {
-    match first_kept(rt, folder) {
+    let found = match first_kept(rt, folder) {
         Ok(Some((place, kept))) => {
-            tell_kept(rt, place.as_str(), kept);
-            true
+            tell_kept(rt, place.as_str(), &kept);
+            Ok(true)
         }
-        Ok(None) => false,
+        Ok(None) => tells_manifest(rt, folder),
+        Err(error) => Err(error),
+    };
+    match found {
+        Ok(is_kept) => is_kept,
         Err(_) => {
             let _ = eprintln!(rt; "{}", FaultName::OutOfMemory);
             true
