@@ -1,2 +1,3 @@
+mod Knowns
 mod Lefts
 mod Rights

@@ -1,3 +1,4 @@
 pub mod Checked
 pub mod Expected
+pub mod Known
 pub mod Left

@@ -1,6 +1,6 @@
 //! What holds of all files that are checked.
 
-ghost use Rattle.std.specs.Prelude.{ℕ, ◌≢◌, List, Option, map};
+ghost use Rattle.std.specs.Prelude.{ℕ, ◌≡◌, ◌≢◌, ◌<◌, ◌⊎◌, ◌^◌, List, Option, Some, length, map, true};
 ghost use Rattle.std.specs.List.{AllByRecursion};
 ghost use Rattle.manifest.specs.Checking.{IsNamed, part_of};
 ghost use Rattle.manifest.specs.Sums.{Collide};
@@ -12,6 +12,12 @@ ghost use Rattle.saved_files.specs.Restored.{files_by};
 ghost use Rattle.saved_files.specs.declared.restore_names.RestoreNames.{RestoreNames};
 ghost use Rattle.checked_files.specs.Checked.{AreRight, IsRightIn, bytes_by};
 ghost use Rattle.checked_files.specs.declared.expected.Expected.{Expected};
+ghost use Rattle.manifest.specs.Entries.{Listed, file_of};
+ghost use Rattle.checked_files.specs.Known.{FitsLength, is_behind, known_of};
+ghost use Rattle.checked_files.specs.declared.known.Known.TheVariants.{Named};
+ghost use Rattle.checked_files.specs.declared.known.ManifestUse.{ManifestUse};
+ghost use Rattle.checked_files.specs.declared.known.ManifestUse.TheVariants.{Aside};
+ghost use Rattle.checked_files.specs.declared.known.ReadFile.{ReadFile};
 
 /// A restore of checked files writes a volume, or a part of one, only where each file that it reads
 /// is the one that a manifest names.
@@ -48,4 +54,20 @@ pub fn named_files_are_one()
     ensures { (file : TheSum) (made found : List ℕ) → IsNamed file made → IsNamed file found
         → part_of file found ≢ part_of file made
         → Collide (part_of file found) (part_of file made) }
+{}
+
+/// A file that a manifest names, which stands beside it or is told, has to be that file, unless it is
+/// told that none counts, or no more than a front of it may count, or it is the master record beside
+/// a log that has grown.
+pub fn left_aside_for_a_reason()
+    ensures { (choice : ManifestUse) (manifest : Listed) (it : ReadFile) (file : TheSum)
+        → file_of it.name.now manifest.entries ≡ Some file
+        → (known_of choice (Some manifest) it ≡ Named file)
+        ⊎ (choice ≡ Aside) ⊎ (it.in_part ≡ true) ⊎ (is_behind manifest it ≡ true) }
+{}
+
+/// The file that is named has a length that fits.
+pub fn named_files_fit()
+    ensures { (file : TheSum) (bytes : List ℕ) → length bytes < 2 ^ 64 → IsNamed file bytes
+        → FitsLength file (length bytes) }
 {}
