@@ -11,7 +11,7 @@ use Rattle.command_words.proofs.ChainLemmas.{none_apart, number_in_chain, one_mo
 use Rattle.command_words.proofs.ViewLemmas.{passes_number}
 
 abbrev asked : (cmd : Parser) → AsksForLog cmd → List Arg
-asked cmd it = it.log ∷ it.archive ∷ it.master ∷ it.all ∷ it.until ∷ []
+asked cmd it = it.log ∷ it.archive ∷ it.master ∷ it.all ∷ it.until ∷ it.manifest ∷ it.no_manifest ∷ []
 
 audited_apart : (cmd : Parser) (it : AsksForLog cmd) → HasDistinctIds (asked cmd it)
 audited_apart cmd it =
@@ -20,15 +20,21 @@ audited_apart cmd it =
     let master : length it.master.id.now ≡ 6 = ap (λ r. length r.id) it.master_is in
     let all : length it.all.id.now ≡ 5 = ap (λ r. length r.id) it.all_is in
     let until : length it.until.id.now ≡ 9 = ap (λ r. length r.id) it.until_is in
-    one_more_apart it.log (it.archive ∷ it.master ∷ it.all ∷ it.until ∷ [])
+    let manifest : length it.manifest.id.now ≡ 13 = ap (λ r. length r.id) it.manifest_is in
+    let no_manifest : length it.no_manifest.id.now ≡ 12 = ap (λ r. length r.id) it.no_manifest_is in
+    one_more_apart it.log (it.archive ∷ it.master ∷ it.all ∷ it.until ∷ it.manifest ∷ it.no_manifest ∷ [])
+    ((λ same. omega arith), ((λ same. omega arith), ((λ same. omega arith), ((λ same. omega arith), ((λ same. omega arith), ((λ same. omega arith), tt))))))
+    (one_more_apart it.archive (it.master ∷ it.all ∷ it.until ∷ it.manifest ∷ it.no_manifest ∷ [])
+    ((λ same. omega arith), ((λ same. omega arith), ((λ same. omega arith), ((λ same. omega arith), ((λ same. omega arith), tt)))))
+    (one_more_apart it.master (it.all ∷ it.until ∷ it.manifest ∷ it.no_manifest ∷ [])
     ((λ same. omega arith), ((λ same. omega arith), ((λ same. omega arith), ((λ same. omega arith), tt))))
-    (one_more_apart it.archive (it.master ∷ it.all ∷ it.until ∷ [])
+    (one_more_apart it.all (it.until ∷ it.manifest ∷ it.no_manifest ∷ [])
     ((λ same. omega arith), ((λ same. omega arith), ((λ same. omega arith), tt)))
-    (one_more_apart it.master (it.all ∷ it.until ∷ [])
+    (one_more_apart it.until (it.manifest ∷ it.no_manifest ∷ [])
     ((λ same. omega arith), ((λ same. omega arith), tt))
-    (one_more_apart it.all (it.until ∷ [])
+    (one_more_apart it.manifest (it.no_manifest ∷ [])
     ((λ same. omega arith), tt)
-    (one_more_apart it.until [] tt none_apart))))
+    (one_more_apart it.no_manifest [] tt none_apart))))))
 
 -- the log that `audit` requires
 pub audited_log_given : (cmd : Parser) (m : ArgMatches) → AsksForLog cmd → IsParsedFrom cmd m

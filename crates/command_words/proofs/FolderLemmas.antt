@@ -10,7 +10,7 @@ use Rattle.clap.specs.declared.builder.command.Command.{Command as Parser}
 use Rattle.clap.specs.declared.parser.matches.ArgMatches.{ArgMatches}
 use Rattle.clap.specs.declared.parser.matches.Found.{Found}
 use Rattle.clap.proofs.CallerLemmas.{required_in_chain}
-use Rattle.command_words.specs.Arguments.{AsksForBackup, AsksForFolderAlone, AsksForTwoFolders, PassesCopy, PassesIn}
+use Rattle.command_words.specs.Arguments.{AsksForBackup, AsksForTwoFolders, AsksForVerify, PassesCopy, PassesIn}
 use Rattle.command_words.specs.Command.{IsTold}
 use Rattle.command_words.proofs.ChainLemmas.{none_apart, number_in_chain, one_more_apart}
 use Rattle.command_words.proofs.ViewLemmas.{number_read}
@@ -61,14 +61,25 @@ copy_read E G found r (inr passes) none value parses =
 
 -- ---- `verify`
 
+verified_apart : (cmd : Parser) (it : AsksForVerify cmd) → HasDistinctIds (it.folder ∷ it.manifest ∷ it.no_manifest ∷ [])
+verified_apart cmd it =
+    let folder : length it.folder.id.now ≡ 3 = ap (λ r. length r.id) it.folder_is in
+    let manifest : length it.manifest.id.now ≡ 13 = ap (λ r. length r.id) it.manifest_is in
+    let no_manifest : length it.no_manifest.id.now ≡ 12 = ap (λ r. length r.id) it.no_manifest_is in
+    one_more_apart it.folder (it.manifest ∷ it.no_manifest ∷ [])
+    ((λ same. omega arith), ((λ same. omega arith), tt))
+    (one_more_apart it.manifest (it.no_manifest ∷ [])
+    ((λ same. omega arith), tt)
+    (one_more_apart it.no_manifest [] tt none_apart))
+
 -- the folder that it requires
-pub verified_folder_given : (cmd : Parser) (m : ArgMatches) → AsksForFolderAlone cmd → IsParsedFrom cmd m
+pub verified_folder_given : (cmd : Parser) (m : ArgMatches) → AsksForVerify cmd → IsParsedFrom cmd m
     → is_some (first_value (found_of m) (codes "dir")) ≡ true
 verified_folder_given cmd m it p =
     let made = it.made in
     subst (λ id. is_some (first_value (found_of m) id) ≡ true) (ap (λ r. r.id) it.folder_is)
-    (required_in_chain made.start cmd (it.folder ∷ []) 0 it.folder m made.chain made.no_arguments made.no_groups
-    made.no_globals made.keeps made.fit (one_more_apart it.folder [] tt none_apart) (lit< tt) it.required p)
+    (required_in_chain made.start cmd (it.folder ∷ it.manifest ∷ it.no_manifest ∷ []) 0 it.folder m made.chain
+    made.no_arguments made.no_groups made.no_globals made.keeps made.fit (verified_apart cmd it) (lit< tt) it.required p)
 
 -- ---- `renew`
 

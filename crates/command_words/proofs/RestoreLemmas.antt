@@ -11,7 +11,8 @@ use Rattle.command_words.proofs.ChainLemmas.{none_apart, number_in_chain, one_mo
 use Rattle.command_words.proofs.ViewLemmas.{passes_number}
 
 abbrev asked : (cmd : Parser) → AsksForFiles cmd → List Arg
-asked cmd it = it.log ∷ it.master ∷ it.archive ∷ it.output ∷ it.log_output ∷ it.force ∷ it.until ∷ []
+asked cmd it = it.log ∷ it.master ∷ it.archive ∷ it.output ∷ it.log_output ∷ it.force ∷ it.until
+    ∷ it.manifest ∷ it.no_manifest ∷ []
 
 files_apart : (cmd : Parser) (it : AsksForFiles cmd) → HasDistinctIds (asked cmd it)
 files_apart cmd it =
@@ -22,19 +23,25 @@ files_apart cmd it =
     let log_output : length it.log_output.id.now ≡ 8 = ap (λ r. length r.id) it.log_output_is in
     let force : length it.force.id.now ≡ 10 = ap (λ r. length r.id) it.force_is in
     let until : length it.until.id.now ≡ 9 = ap (λ r. length r.id) it.until_is in
-    one_more_apart it.log (it.master ∷ it.archive ∷ it.output ∷ it.log_output ∷ it.force ∷ it.until ∷ [])
+    let manifest : length it.manifest.id.now ≡ 13 = ap (λ r. length r.id) it.manifest_is in
+    let no_manifest : length it.no_manifest.id.now ≡ 12 = ap (λ r. length r.id) it.no_manifest_is in
+    one_more_apart it.log (it.master ∷ it.archive ∷ it.output ∷ it.log_output ∷ it.force ∷ it.until ∷ it.manifest ∷ it.no_manifest ∷ [])
+    ((λ same. omega arith), ((λ same. omega arith), ((λ same. omega arith), ((λ same. omega arith), ((λ same. omega arith), ((λ same. omega arith), ((λ same. omega arith), ((λ same. omega arith), tt))))))))
+    (one_more_apart it.master (it.archive ∷ it.output ∷ it.log_output ∷ it.force ∷ it.until ∷ it.manifest ∷ it.no_manifest ∷ [])
+    ((λ same. omega arith), ((λ same. omega arith), ((λ same. omega arith), ((λ same. omega arith), ((λ same. omega arith), ((λ same. omega arith), ((λ same. omega arith), tt)))))))
+    (one_more_apart it.archive (it.output ∷ it.log_output ∷ it.force ∷ it.until ∷ it.manifest ∷ it.no_manifest ∷ [])
     ((λ same. omega arith), ((λ same. omega arith), ((λ same. omega arith), ((λ same. omega arith), ((λ same. omega arith), ((λ same. omega arith), tt))))))
-    (one_more_apart it.master (it.archive ∷ it.output ∷ it.log_output ∷ it.force ∷ it.until ∷ [])
+    (one_more_apart it.output (it.log_output ∷ it.force ∷ it.until ∷ it.manifest ∷ it.no_manifest ∷ [])
     ((λ same. omega arith), ((λ same. omega arith), ((λ same. omega arith), ((λ same. omega arith), ((λ same. omega arith), tt)))))
-    (one_more_apart it.archive (it.output ∷ it.log_output ∷ it.force ∷ it.until ∷ [])
+    (one_more_apart it.log_output (it.force ∷ it.until ∷ it.manifest ∷ it.no_manifest ∷ [])
     ((λ same. omega arith), ((λ same. omega arith), ((λ same. omega arith), ((λ same. omega arith), tt))))
-    (one_more_apart it.output (it.log_output ∷ it.force ∷ it.until ∷ [])
+    (one_more_apart it.force (it.until ∷ it.manifest ∷ it.no_manifest ∷ [])
     ((λ same. omega arith), ((λ same. omega arith), ((λ same. omega arith), tt)))
-    (one_more_apart it.log_output (it.force ∷ it.until ∷ [])
+    (one_more_apart it.until (it.manifest ∷ it.no_manifest ∷ [])
     ((λ same. omega arith), ((λ same. omega arith), tt))
-    (one_more_apart it.force (it.until ∷ [])
+    (one_more_apart it.manifest (it.no_manifest ∷ [])
     ((λ same. omega arith), tt)
-    (one_more_apart it.until [] tt none_apart))))))
+    (one_more_apart it.no_manifest [] tt none_apart))))))))
 
 pub log_given : (cmd : Parser) (m : ArgMatches) → AsksForFiles cmd → IsParsedFrom cmd m
     → is_some (first_value (found_of m) (codes "log")) ≡ true

@@ -15,9 +15,8 @@ use Rattle.clap.proofs.CallerLemmas.{required_in_chain}
 use Rattle.clap.proofs.CallerReads.{signed_reads}
 use Rattle.command_words.specs.Arguments.{AsksForList, AsksForView, PassesIn, PassesNumber}
 use Rattle.command_words.specs.Command.{IsTold}
-use Rattle.command_words.specs.Command.{folder_rule, json_rule}
 use Rattle.command_words.proofs.ClapLemmas.{is_read}
-use Rattle.command_words.proofs.ChainLemmas.{number_in_chain}
+use Rattle.command_words.proofs.ChainLemmas.{none_apart, number_in_chain, one_more_apart}
 use Rattle.command_words.proofs.RequiredLemmas.{same_length}
 
 -- ids whose lengths rise by one from place to place are all apart
@@ -114,52 +113,24 @@ number_read E G found id r (inr (low, high, fits, passes)) none value parses =
 
 -- ---- `list`
 
-different : (a b : ℕ) → a ≡ 3 → b ≡ 7 → a ≡ b → ⊥
-different a b three seven same = omega arith
-
-two_apart : (cmd : Parser) (it : AsksForList cmd) → HasDistinctIds (it.folder ∷ it.json ∷ [])
-two_apart cmd it zero zero d e lj lk same = refl
-two_apart cmd it zero (suc zero) d e lj lk same =
-    absurd (different _ _ (ap (λ r. length r.id) it.folder_is) (ap (λ r. length r.id) it.json_is) (same_length _ _ same))
-two_apart cmd it (suc zero) zero d e lj lk same =
-    absurd (different _ _ (ap (λ r. length r.id) it.folder_is) (ap (λ r. length r.id) it.json_is) (sym (same_length _ _ same)))
-two_apart cmd it (suc zero) (suc zero) d e lj lk same = refl
-two_apart cmd it (suc (suc j)) k d e lj lk same = absurd (omega arith)
-two_apart cmd it j (suc (suc k)) d e lj lk same = absurd (omega arith)
+listed_apart : (cmd : Parser) (it : AsksForList cmd) → HasDistinctIds (it.folder ∷ it.json ∷ it.manifest ∷ it.no_manifest ∷ [])
+listed_apart cmd it =
+    let folder : length it.folder.id.now ≡ 3 = ap (λ r. length r.id) it.folder_is in
+    let json : length it.json.id.now ≡ 7 = ap (λ r. length r.id) it.json_is in
+    let manifest : length it.manifest.id.now ≡ 13 = ap (λ r. length r.id) it.manifest_is in
+    let no_manifest : length it.no_manifest.id.now ≡ 12 = ap (λ r. length r.id) it.no_manifest_is in
+    one_more_apart it.folder (it.json ∷ it.manifest ∷ it.no_manifest ∷ [])
+    ((λ same. omega arith), ((λ same. omega arith), ((λ same. omega arith), tt)))
+    (one_more_apart it.json (it.manifest ∷ it.no_manifest ∷ [])
+    ((λ same. omega arith), ((λ same. omega arith), tt))
+    (one_more_apart it.manifest (it.no_manifest ∷ [])
+    ((λ same. omega arith), tt)
+    (one_more_apart it.no_manifest [] tt none_apart)))
 
 pub listed_folder_given : (cmd : Parser) (m : ArgMatches) → AsksForList cmd → IsParsedFrom cmd m
     → is_some (first_value (found_of m) (codes "dir")) ≡ true
 listed_folder_given cmd m it p =
     let made = it.made in
     subst (λ id. is_some (first_value (found_of m) id) ≡ true) (ap (λ r. r.id) it.folder_is)
-    (required_in_chain made.start cmd (it.folder ∷ it.json ∷ []) 0 it.folder m made.chain
-    made.no_arguments made.no_groups made.no_globals made.keeps made.fit (two_apart cmd it) (lit< tt) it.required p)
-
--- ---- commands that are made of their arguments
-
-two_fit : (a b : Arg) → FitsChain a → FitsChain b → (k : ℕ) (x : Arg) → k < length (a ∷ b ∷ [])
-    → FitsChain (slice_index_or (a ∷ b ∷ []) k x)
-two_fit a b fit-a fit-b zero x lt = fit-a
-two_fit a b fit-a fit-b (suc zero) x lt = fit-b
-two_fit a b fit-a fit-b (suc (suc k)) x lt = absurd (omega arith)
-
-pub asks_for_list : (start one cmd : Parser) (a b : Arg) → args_of start ≡ [] → groups_of start ≡ []
-    → (fields_of start).has_globals ≡ false → (fields_of start).subcommand_negates_reqs ≡ false
-    → FitsChain a → FitsChain b → rule_of a ≡ folder_rule → rule_of b ≡ json_rule → TakesValue a
-    → AddsArg start a one → AddsArg one b cmd → AsksForList cmd
-asks_for_list start one cmd a b args groups globals negates fit-a fit-b rule-a rule-b value first second = record {
-  folder = a;
-  json = b;
-  made = record {
-    start = start;
-    no_arguments = args;
-    no_groups = groups;
-    no_globals = globals;
-    keeps = negates;
-    chain = (one, first, (cmd, second, refl));
-    fit = λ k x lt. two_fit a b fit-a fit-b k x lt;
-  };
-  folder_is = rule-a;
-  json_is = rule-b;
-  required = value;
-}
+    (required_in_chain made.start cmd (it.folder ∷ it.json ∷ it.manifest ∷ it.no_manifest ∷ []) 0 it.folder m made.chain
+    made.no_arguments made.no_groups made.no_globals made.keeps made.fit (listed_apart cmd it) (lit< tt) it.required p)

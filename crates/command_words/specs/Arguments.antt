@@ -12,7 +12,7 @@ use Rattle.clap.specs.declared.parser.matches.Found.{Found}
 use Rattle.command_words.specs.Command.{all_rule, archive_rule, audited_master_rule, count_parser}
 use Rattle.command_words.specs.Command.{file_rule, folder_rule, force_rule, frames_rule, from_rule}
 use Rattle.command_words.specs.Command.{full_rule, into_rule, json_rule, log_output_rule, log_rule}
-use Rattle.command_words.specs.Command.{master_rule, old_rule, on_rule, output_rule, page_rule}
+use Rattle.command_words.specs.Command.{manifest_rule, master_rule, no_manifest_rule, old_rule, on_rule, output_rule, page_rule}
 use Rattle.command_words.specs.Command.{pages_rule, renewed_rule, salvage_rule, save_rule}
 use Rattle.command_words.specs.Command.{commits_rule, lsn_parser, strict_rule, to_rule}
 use Rattle.command_words.specs.Command.{told_pages_rule, txn_rule, until_rule}
@@ -61,7 +61,8 @@ pub record AsksForFolder (command : Parser) : Type 0 where
   pub pages_parsed : pages.value_parser ≡ Some count_parser
   pub frames_parsed : frames.value_parser ≡ Some count_parser
 
--- two files are required, and then more may be named, one for each output, a flag and an LSN
+-- two files are required, and then more may be named, one for each output, a flag, an LSN, and which
+-- manifest counts
 pub record AsksForFiles (command : Parser) : Type 0 where
   pub log : Arg
   pub master : Arg
@@ -70,7 +71,10 @@ pub record AsksForFiles (command : Parser) : Type 0 where
   pub log_output : Arg
   pub force : Arg
   pub until : Arg
-  pub made : IsMadeOf command (log ∷ master ∷ archive ∷ output ∷ log_output ∷ force ∷ until ∷ [])
+  pub manifest : Arg
+  pub no_manifest : Arg
+  pub made : IsMadeOf command (log ∷ master ∷ archive ∷ output ∷ log_output ∷ force ∷ until
+      ∷ manifest ∷ no_manifest ∷ [])
   pub log_is : rule_of log ≡ log_rule
   pub master_is : rule_of master ≡ master_rule
   pub archive_is : rule_of archive ≡ archive_rule
@@ -78,23 +82,31 @@ pub record AsksForFiles (command : Parser) : Type 0 where
   pub log_output_is : rule_of log_output ≡ log_output_rule
   pub force_is : rule_of force ≡ force_rule
   pub until_is : rule_of until ≡ until_rule
+  pub manifest_is : rule_of manifest ≡ manifest_rule
+  pub no_manifest_is : rule_of no_manifest ≡ no_manifest_rule
   pub log_required : TakesValue log
   pub master_required : TakesValue master
   pub until_parsed : until.value_parser ≡ Some lsn_parser
 
--- a log is required, and then archives and a master record may be named, a flag and an LSN
+-- a log is required, and then archives and a master record may be named, a flag, an LSN, and which
+-- manifest counts
 pub record AsksForLog (command : Parser) : Type 0 where
   pub log : Arg
   pub archive : Arg
   pub master : Arg
   pub all : Arg
   pub until : Arg
-  pub made : IsMadeOf command (log ∷ archive ∷ master ∷ all ∷ until ∷ [])
+  pub manifest : Arg
+  pub no_manifest : Arg
+  pub made : IsMadeOf command
+      (log ∷ archive ∷ master ∷ all ∷ until ∷ manifest ∷ no_manifest ∷ [])
   pub log_is : rule_of log ≡ log_rule
   pub archive_is : rule_of archive ≡ archive_rule
   pub master_is : rule_of master ≡ audited_master_rule
   pub all_is : rule_of all ≡ all_rule
   pub until_is : rule_of until ≡ until_rule
+  pub manifest_is : rule_of manifest ≡ manifest_rule
+  pub no_manifest_is : rule_of no_manifest ≡ no_manifest_rule
   pub log_required : TakesValue log
   pub until_parsed : until.value_parser ≡ Some lsn_parser
 
@@ -121,13 +133,17 @@ pub record AsksForView (command : Parser) : Type 0 where
   pub txn_parsed : txn.value_parser ≡ Some (Signed (pos 1) (pos 4294967295))
   pub page_parsed : page.value_parser ≡ Some (Signed (pos 0) (pos 65535))
 
--- a folder is required, and then a flag may be told
+-- a folder is required, and then a flag may be told, and which manifest counts
 pub record AsksForList (command : Parser) : Type 0 where
   pub folder : Arg
   pub json : Arg
-  pub made : IsMadeOf command (folder ∷ json ∷ [])
+  pub manifest : Arg
+  pub no_manifest : Arg
+  pub made : IsMadeOf command (folder ∷ json ∷ manifest ∷ no_manifest ∷ [])
   pub folder_is : rule_of folder ≡ folder_rule
   pub json_is : rule_of json ≡ json_rule
+  pub manifest_is : rule_of manifest ≡ manifest_rule
+  pub no_manifest_is : rule_of no_manifest ≡ no_manifest_rule
   pub required : TakesValue folder
 
 -- a folder is required, and then a copy, a flag and a second folder may be told
@@ -144,11 +160,15 @@ pub record AsksForBackup (command : Parser) : Type 0 where
   pub required : TakesValue folder
   pub on_parsed : on.value_parser ≡ Some (Signed (pos 1) (pos 4294967295))
 
--- a folder is required, and nothing else may be told
-pub record AsksForFolderAlone (command : Parser) : Type 0 where
+-- a folder is required, and then it may be told which manifest counts
+pub record AsksForVerify (command : Parser) : Type 0 where
   pub folder : Arg
-  pub made : IsMadeOf command (folder ∷ [])
+  pub manifest : Arg
+  pub no_manifest : Arg
+  pub made : IsMadeOf command (folder ∷ manifest ∷ no_manifest ∷ [])
   pub folder_is : rule_of folder ≡ folder_rule
+  pub manifest_is : rule_of manifest ≡ manifest_rule
+  pub no_manifest_is : rule_of no_manifest ≡ no_manifest_rule
   pub required : TakesValue folder
 
 -- two folders are required

@@ -137,13 +137,33 @@ log_output_rule = record (new_rule (codes "log_into")) {
   value_names = 1;
 }
 
--- `restore [-o FILE] [--log-out FILE] [--force] [--until LSN] LOG MASTER [ARCHIVE]...`
+-- the manifest of the files that are read
+abbrev pub manifest_rule : Rule
+manifest_rule = record (new_rule (codes "manifest_file")) {
+  long = Some (codes "manifest");
+  action = Some Set;
+  value_names = 1;
+}
+
+-- no manifest is looked at
+abbrev pub no_manifest_rule : Rule
+no_manifest_rule = record (new_rule (codes "without_sums")) {
+  long = Some (codes "no-manifest");
+  action = Some SetTrue;
+}
+
+-- `.. [--manifest FILE] [--no-manifest]`
+abbrev pub with_manifest_rules : App → App
+with_manifest_rules app = with_rule (with_rule app manifest_rule) no_manifest_rule
+
+-- `restore [-o FILE] [--log-out FILE] [--force] [--until LSN] [--manifest FILE] [--no-manifest]
+-- LOG MASTER [ARCHIVE]...`
 abbrev pub restore_app : App
-restore_app = with_rule (with_rule (with_rule
+restore_app = with_manifest_rules (with_rule (with_rule (with_rule
     (with_rule (with_rule (with_rule (with_rule (new_app (codes "restore")) log_rule) master_rule)
     archive_rule)
     output_rule)
-    log_output_rule) force_rule) until_rule
+    log_output_rule) force_rule) until_rule)
 
 abbrev pub audited_master_rule : Rule
 audited_master_rule = record (new_rule (codes "master")) {
@@ -158,11 +178,11 @@ all_rule = record (new_rule (codes "every")) {
   action = Some SetTrue;
 }
 
--- `audit [--all] [--master FILE] [--until LSN] LOG [ARCHIVE]...`
+-- `audit [--all] [--master FILE] [--until LSN] [--manifest FILE] [--no-manifest] LOG [ARCHIVE]...`
 abbrev pub audit_app : App
-audit_app = with_rule (with_rule
+audit_app = with_manifest_rules (with_rule (with_rule
     (with_rule (with_rule (with_rule (new_app (codes "audit")) log_rule) archive_rule)
-    audited_master_rule) all_rule) until_rule
+    audited_master_rule) all_rule) until_rule)
 
 abbrev pub folder_rule : Rule
 folder_rule = record (new_rule (codes "dir")) {
@@ -236,9 +256,10 @@ show_app = with_rule (with_rule (with_rule (with_rule
     (with_rule (with_rule (with_rule (new_app (codes "show")) file_rule) from_rule) to_rule)
     txn_rule) page_rule) json_rule) commits_rule
 
--- `list FOLDER [--json]`
+-- `list FOLDER [--json] [--manifest FILE] [--no-manifest]`
 abbrev pub list_app : App
-list_app = with_rule (with_rule (new_app (codes "list")) folder_rule) json_rule
+list_app =
+    with_manifest_rules (with_rule (with_rule (new_app (codes "list")) folder_rule) json_rule)
 
 -- the copy that a new one stands on
 abbrev pub on_rule : Rule
@@ -265,9 +286,9 @@ backup_app = with_rule
     (with_rule (with_rule (with_rule (new_app (codes "backup")) folder_rule) on_rule) full_rule)
     into_rule
 
--- `verify FOLDER`
+-- `verify FOLDER [--manifest FILE] [--no-manifest]`
 abbrev pub verify_app : App
-verify_app = with_rule (new_app (codes "verify")) folder_rule
+verify_app = with_manifest_rules (with_rule (new_app (codes "verify")) folder_rule)
 
 -- the folder of a closed database
 abbrev pub old_rule : Rule
@@ -352,7 +373,7 @@ Gives words (Open folder pages frames salvage strict) = let rows = matches_of op
     × IsFramesRead (one_of (codes "frames") rows) frames
     × IsFlag (one_of (codes "is_salvage") rows) salvage
     × IsFlag (one_of (codes "is_strict") rows) strict
-Gives words (Restore log master archives output log_output force until) =
+Gives words (Restore log master archives output log_output force until manifest no_manifest) =
     let rows = matches_of restore_app words in
     IsTakenBy words restore_app × (first_of (codes "log") rows ≡ Some log.now)
     × (first_of (codes "master") rows ≡ Some master.now)
@@ -361,27 +382,36 @@ Gives words (Restore log master archives output log_output force until) =
     × (option_map (λ name. name.now) log_output ≡ first_of (codes "log_into") rows)
     × IsFlag (one_of (codes "with_force") rows) force
     × IsTold (one_of (codes "until_lsn") rows) until
-Gives words (Audit log archives master all until) = let rows = matches_of audit_app words in
+    × (option_map (λ name. name.now) manifest ≡ first_of (codes "manifest_file") rows)
+    × IsFlag (one_of (codes "without_sums") rows) no_manifest
+Gives words (Audit log archives master all until manifest no_manifest) =
+    let rows = matches_of audit_app words in
     IsTakenBy words audit_app × (first_of (codes "log") rows ≡ Some log.now)
     × (map (λ name. name.now) archives.items ≡ unwrap_or (all_of (codes "archive") rows) [])
     × (option_map (λ name. name.now) master ≡ first_of (codes "master") rows)
     × IsFlag (one_of (codes "every") rows) all
     × IsTold (one_of (codes "until_lsn") rows) until
+    × (option_map (λ name. name.now) manifest ≡ first_of (codes "manifest_file") rows)
+    × IsFlag (one_of (codes "without_sums") rows) no_manifest
 Gives words (Show file from to txn page json commits) = let rows = matches_of show_app words in
     IsTakenBy words show_app × (first_of (codes "of") rows ≡ Some file.now)
     × IsTold (one_of (codes "low") rows) from × IsTold (one_of (codes "high") rows) to
     × IsTold (one_of (codes "owner") rows) txn × IsTold (one_of (codes "number") rows) page
     × IsFlag (one_of (codes "as_json") rows) json
     × IsFlag (one_of (codes "finished") rows) commits
-Gives words (ListFolder folder json) = let rows = matches_of list_app words in
+Gives words (ListFolder folder json manifest no_manifest) = let rows = matches_of list_app words in
     IsTakenBy words list_app × (first_of (codes "dir") rows ≡ Some folder.now)
     × IsFlag (one_of (codes "as_json") rows) json
+    × (option_map (λ name. name.now) manifest ≡ first_of (codes "manifest_file") rows)
+    × IsFlag (one_of (codes "without_sums") rows) no_manifest
 Gives words (Backup folder on full into) = let rows = matches_of backup_app words in
     IsTakenBy words backup_app × (first_of (codes "dir") rows ≡ Some folder.now)
     × IsTold (one_of (codes "on") rows) on × IsFlag (one_of (codes "is_full") rows) full
     × (option_map (λ name. name.now) into ≡ first_of (codes "into") rows)
-Gives words (Verify folder) = let rows = matches_of verify_app words in
+Gives words (Verify folder manifest no_manifest) = let rows = matches_of verify_app words in
     IsTakenBy words verify_app × (first_of (codes "dir") rows ≡ Some folder.now)
+    × (option_map (λ name. name.now) manifest ≡ first_of (codes "manifest_file") rows)
+    × IsFlag (one_of (codes "without_sums") rows) no_manifest
 Gives words (Renew old renewed) = let rows = matches_of renew_app words in
     IsTakenBy words renew_app × (first_of (codes "old") rows ≡ Some old.now)
     × (first_of (codes "renewed") rows ≡ Some renewed.now)
@@ -396,12 +426,12 @@ HasCounts (Run pages frames save strict force) =
     (1 ≤ pages) × (pages ≤ 65536) × (1 ≤ frames) × (frames ≤ 65536)
 HasCounts (Open folder pages frames salvage strict) =
     IfSome pages (λ n. (1 ≤ n) × (n ≤ 65536)) × (1 ≤ frames) × (frames ≤ 65536)
-HasCounts (Restore log master archives output log_output force until) = Unit {0}
-HasCounts (Audit log archives master all until) = Unit {0}
+HasCounts (Restore log master archives output log_output force until manifest no_manifest) = Unit {0}
+HasCounts (Audit log archives master all until manifest no_manifest) = Unit {0}
 HasCounts (Show file from to txn page json commits) = Unit {0}
-HasCounts (ListFolder folder json) = Unit {0}
+HasCounts (ListFolder folder json manifest no_manifest) = Unit {0}
 HasCounts (Backup folder on full into) = IfSome on (λ n. (1 ≤ n) × (n < 2 ^ 32))
-HasCounts (Verify folder) = Unit {0}
+HasCounts (Verify folder manifest no_manifest) = Unit {0}
 HasCounts (Renew old renewed) = Unit {0}
 HasCounts Version = Unit {0}
 

@@ -16,6 +16,7 @@ ghost use Rattle.command_words.specs.Command.{run_app, save_rule, strict_rule};
 ghost use Rattle.command_words.specs.declared.command.UsageFault.TheVariants.{OutOfMemory};
 
 use crate::command::UsageFault;
+use crate::manifest_words::{manifest_arg, no_manifest_arg};
 use clap::{Arg, ArgAction, ArgMatches};
 use std::alloc::{AllocError, Global};
 use std::convert::AsStr;
@@ -117,8 +118,8 @@ const REDO_USAGE: &str =
 const RUN_USAGE: &str = "imgcopy run --pages <N> [OPTIONS] < SCRIPT";
 
 const RESTORE_USAGE: &str =
-    "imgcopy restore [--log-out <FILE> [--force]] [--until <LSN>] <LOG> <MASTER> <ARCHIVE>... > VOLUME\n       \
-    imgcopy restore -o <FILE> [--log-out <FILE>] [--force] [--until <LSN>] <LOG> <MASTER> <ARCHIVE>...";
+    "imgcopy restore [--log-out <FILE> [--force]] [OPTIONS] <LOG> <MASTER> <ARCHIVE>... > VOLUME\n       \
+    imgcopy restore -o <FILE> [--log-out <FILE>] [--force] [OPTIONS] <LOG> <MASTER> <ARCHIVE>...";
 
 const AUDIT_USAGE: &str = "imgcopy audit [OPTIONS] <LOG> <ARCHIVE>...";
 
@@ -172,7 +173,9 @@ fn restore_command<'a>(alloc: Global) -> Result<clap::Command<'a>, AllocError>
         .arg(output_arg(alloc))?
         .arg(log_output_arg(alloc))?
         .arg(force_arg(alloc))?
-        .arg(until_arg(alloc))
+        .arg(until_arg(alloc))?
+        .arg(manifest_arg(alloc))?
+        .arg(no_manifest_arg(alloc))
 }
 
 fn audit_command<'a>(alloc: Global) -> Result<clap::Command<'a>, AllocError>
@@ -187,7 +190,9 @@ fn audit_command<'a>(alloc: Global) -> Result<clap::Command<'a>, AllocError>
         .arg(archive_arg(alloc))?
         .arg(audited_master_arg(alloc))?
         .arg(all_arg(alloc))?
-        .arg(until_arg(alloc))
+        .arg(until_arg(alloc))?
+        .arg(manifest_arg(alloc))?
+        .arg(no_manifest_arg(alloc))
 }
 
 fn pages_arg<'a>(alloc: Global) -> Arg<'a>

@@ -64,7 +64,8 @@ pub enum Command<'a> {
     },
     /// To restore a volume of these files: the log, its master record, and the archives of a chain
     /// of copies, the full one first. The volume goes into the output, if one is named, and so does
-    /// the log after undo. The log counts up to the record at an LSN, if one is told.
+    /// the log after undo. The log counts up to the record at an LSN, if one is told. The manifest
+    /// of the files is this one, or there is to be none; else it is the one that stands beside them.
     Restore {
         log: &'a str,
         master: &'a str,
@@ -73,16 +74,21 @@ pub enum Command<'a> {
         log_output: Option<&'a str>,
         force: bool,
         until: Option<u32>,
+        manifest: Option<&'a str>,
+        no_manifest: bool,
     },
     /// To audit a chain of copies against a log: the log, and the archives of the chain, the full
     /// one first, and then the master record, if one is named. All unsound pages are told, or the
-    /// first one. The log counts up to the record at an LSN, if one is told.
+    /// first one. The log counts up to the record at an LSN, if one is told. The manifest is told as
+    /// for a restore.
     Audit {
         log: &'a str,
         archives: Vec<&'a str>,
         master: Option<&'a str>,
         all: bool,
         until: Option<u32>,
+        manifest: Option<&'a str>,
+        no_manifest: bool,
     },
     /// To print what a file has: a log, a master record, an archive or a volume. Of a log only the
     /// records from one LSN to another, those that name the transaction, and those that name the
@@ -97,10 +103,13 @@ pub enum Command<'a> {
         json: bool,
         commits: bool,
     },
-    /// To print which copies stand in this folder, and what restores of them would do.
+    /// To print which copies stand in this folder, and what restores of them would do. The manifest
+    /// is told as for a restore.
     ListFolder {
         folder: &'a str,
         json: bool,
+        manifest: Option<&'a str>,
+        no_manifest: bool,
     },
     /// To open the closed database in this folder, make a checkpoint and an image copy, and close
     /// it. The copy stands on the one of this number, at least 1, or on the newest one, or it is a
@@ -111,9 +120,12 @@ pub enum Command<'a> {
         full: bool,
         into: Option<&'a str>,
     },
-    /// To check the files of this folder against its manifest, and that its copies restore.
+    /// To check the files of this folder against its manifest, which is told as for a restore, and
+    /// that its copies restore.
     Verify {
         folder: &'a str,
+        manifest: Option<&'a str>,
+        no_manifest: bool,
     },
     /// To make a database in the new folder that begins with the numbers of the closed one in the
     /// old folder, and whose log begins anew.
@@ -414,6 +426,8 @@ fn restore_of<'a, S: AsStr>(alloc: Global, words: &'a [S]) -> Result<Command<'a>
     let log_output = matches.get_str("log_into");
     let force = matches.get_flag("with_force");
     let until = number_in(&matches, "until_lsn");
+    let manifest = matches.get_str("manifest_file");
+    let no_manifest = matches.get_flag("without_sums");
     Ok(Command::Restore {
         log,
         master,
@@ -422,6 +436,8 @@ fn restore_of<'a, S: AsStr>(alloc: Global, words: &'a [S]) -> Result<Command<'a>
         log_output,
         force,
         until,
+        manifest,
+        no_manifest,
     })
 }
 
@@ -440,12 +456,16 @@ fn audit_of<'a, S: AsStr>(alloc: Global, words: &'a [S]) -> Result<Command<'a>, 
     let master = matches.get_str("master");
     let all = matches.get_flag("every");
     let until = number_in(&matches, "until_lsn");
+    let manifest = matches.get_str("manifest_file");
+    let no_manifest = matches.get_flag("without_sums");
     Ok(Command::Audit {
         log,
         archives,
         master,
         all,
         until,
+        manifest,
+        no_manifest,
     })
 }
 

@@ -5,8 +5,8 @@ ghost use Rattle.clap.specs.Built.{FitsChain, TakesValue};
 ghost use Rattle.clap.specs.Words.{app_of, fault_of, first_value, found_of, matches_of, one_of};
 ghost use Rattle.clap.specs.Words.{rows_of, rule_of};
 ghost use Rattle.clap.specs.declared.builder.value_parser.ValueParser.TheVariants.{Signed};
-ghost use Rattle.command_words.specs.Arguments.{AsksForBackup, AsksForFolderAlone};
-ghost use Rattle.command_words.specs.Arguments.{AsksForTwoFolders, PassesCopy};
+ghost use Rattle.command_words.specs.Arguments.{AsksForBackup, AsksForTwoFolders};
+ghost use Rattle.command_words.specs.Arguments.{AsksForVerify, PassesCopy};
 ghost use Rattle.command_words.specs.Command.{ExplainsRead, Gives, HasCounts, IsTold, Names};
 ghost use Rattle.command_words.specs.Command.{backup_app, full_rule, into_rule, old_rule, on_rule};
 ghost use Rattle.command_words.specs.Command.{renew_app, renewed_rule, verify_app};
@@ -14,6 +14,7 @@ ghost use Rattle.command_words.specs.declared.command.Command.TheVariants as com
 ghost use Rattle.command_words.specs.declared.command.UsageFault.TheVariants.{OutOfMemory};
 
 use crate::command::{Command, UsageFault, value_in};
+use crate::manifest_words::{manifest_arg, no_manifest_arg};
 use crate::open_words::folder_arg;
 use clap::{Arg, ArgAction, ArgMatches};
 use std::alloc::{AllocError, Global};
@@ -21,7 +22,7 @@ use std::convert::AsStr;
 
 const BACKUP_USAGE: &str = "imgcopy backup [OPTIONS] <FOLDER>";
 
-const VERIFY_USAGE: &str = "imgcopy verify <FOLDER>";
+const VERIFY_USAGE: &str = "imgcopy verify [OPTIONS] <FOLDER>";
 
 const RENEW_USAGE: &str = "imgcopy renew <OLD> <NEW>";
 
@@ -66,7 +67,13 @@ pub(crate) fn verify_of<'a, S: AsStr>(
 {
     let matches = verify_matches(alloc, words)?;
     let folder = value_in(&matches, "dir");
-    Ok(Command::Verify { folder })
+    let manifest = matches.get_str("manifest_file");
+    let no_manifest = matches.get_flag("without_sums");
+    Ok(Command::Verify {
+        folder,
+        manifest,
+        no_manifest,
+    })
 }
 
 /// Reads the words of `renew`.
@@ -160,13 +167,15 @@ fn backup_command<'a>(alloc: Global) -> Result<clap::Command<'a>, AllocError>
 
 fn verify_command<'a>(alloc: Global) -> Result<clap::Command<'a>, AllocError>
     ensures app { IfOk result (λ it. app_of it ≡ verify_app) }
-    ensures made { IfOk result AsksForFolderAlone }
+    ensures made { IfOk result AsksForVerify }
 {
     clap::Command::new(alloc, "verify")
         .about("Check the files of a folder against its manifest, and that its copies restore")
         .override_usage(VERIFY_USAGE)
         .bin_name("imgcopy verify")?
-        .arg(folder_arg(alloc))
+        .arg(folder_arg(alloc))?
+        .arg(manifest_arg(alloc))?
+        .arg(no_manifest_arg(alloc))
 }
 
 fn renew_command<'a>(alloc: Global) -> Result<clap::Command<'a>, AllocError>

@@ -4,6 +4,7 @@
 mod arguments;
 mod command;
 mod folder_words;
+mod manifest_words;
 mod open_words;
 mod view_words;
 mod words;

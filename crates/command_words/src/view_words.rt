@@ -13,6 +13,7 @@ ghost use Rattle.command_words.specs.declared.command.Command.TheVariants as com
 ghost use Rattle.command_words.specs.declared.command.UsageFault.TheVariants.{OutOfMemory};
 
 use crate::command::{Command, UsageFault, value_in};
+use crate::manifest_words::{manifest_arg, no_manifest_arg};
 use crate::open_words::folder_arg;
 use clap::{Arg, ArgAction, ArgMatches};
 use std::alloc::{AllocError, Global};
@@ -70,7 +71,14 @@ pub(crate) fn list_of<'a, S: AsStr>(
     let matches = list_matches(alloc, words)?;
     let folder = value_in(&matches, "dir");
     let json = matches.get_flag("as_json");
-    Ok(Command::ListFolder { folder, json })
+    let manifest = matches.get_str("manifest_file");
+    let no_manifest = matches.get_flag("without_sums");
+    Ok(Command::ListFolder {
+        folder,
+        json,
+        manifest,
+        no_manifest,
+    })
 }
 
 /// What `clap` makes of the words of `show`.
@@ -138,7 +146,9 @@ fn list_command<'a>(alloc: Global) -> Result<clap::Command<'a>, AllocError>
         .override_usage(LIST_USAGE)
         .bin_name("imgcopy list")?
         .arg(folder_arg(alloc))?
-        .arg(json_arg(alloc))
+        .arg(json_arg(alloc))?
+        .arg(manifest_arg(alloc))?
+        .arg(no_manifest_arg(alloc))
 }
 
 fn file_arg<'a>(alloc: Global) -> Arg<'a>

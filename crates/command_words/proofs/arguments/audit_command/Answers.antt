@@ -3,7 +3,8 @@ use Rattle.std.proofs.lemmas.Result.{IfOk-weaker}
 use Rattle.clap.specs.declared.builder.command.Command.{Command as Parser}
 use Rattle.clap.specs.declared.builder.command.Command.TheOpen.{Command-F}
 use Rattle.clap.specs.Simple.{app_of_fields, new_app, with_rule}
-use Rattle.command_words.specs.Command.{all_rule, archive_rule, audited_master_rule, log_rule, until_rule}
+use Rattle.command_words.specs.Command.{all_rule, archive_rule, audited_master_rule, log_rule}
+use Rattle.command_words.specs.Command.{manifest_rule, no_manifest_rule, until_rule}
 use Rattle.command_words.proofs.ChainLemmas.{made_of, none_fit, one_more_fits}
 use Rattle.command_words.proofs.RequiredLemmas.{app_with}
 use Rattle.command_words.proofs.arguments.audit_command.Goals as goal
@@ -16,33 +17,39 @@ returns-clause-made c =
     let negates = λ (f : Command-F Parser). f.subcommand_negates_reqs in
     let named = c.in_ok-bin_name.ensures.0 in
     let shown = c.override_usage.ensures in
-    IfOk-weaker c.arg-5.result _ _ (λ command added. record {
+    IfOk-weaker c.arg-7.result _ _ (λ command added. record {
       log = c.log_arg.result;
       archive = c.archive_arg.result;
       master = c.audited_master_arg.result;
       all = c.all_arg.result;
       until = c.until_arg.result;
+      manifest = c.manifest_arg.result;
+      no_manifest = c.no_manifest_arg.result;
       made = made_of c.in_ok-bin_name.field-0 command
-          (c.log_arg.result ∷ c.archive_arg.result ∷ c.audited_master_arg.result ∷ c.all_arg.result ∷ c.until_arg.result ∷ [])
+          (c.log_arg.result ∷ c.archive_arg.result ∷ c.audited_master_arg.result ∷ c.all_arg.result ∷ c.until_arg.result ∷ c.manifest_arg.result ∷ c.no_manifest_arg.result ∷ [])
           (ap args named ∙ (ap args shown ∙ (ap args c.about.ensures ∙ c.new.ensures.empty.0)))
           (ap groups named ∙ (ap groups shown ∙ (ap groups c.about.ensures ∙ c.new.ensures.empty.1)))
           (ap globals named ∙ (ap globals shown ∙ (ap globals c.about.ensures ∙ c.new.ensures.local)))
           (ap negates named ∙ (ap negates shown ∙ (ap negates c.about.ensures ∙ c.new.ensures.negates)))
-          (c.in_ok-arg.field-0, c.in_ok-arg.ensures, (c.in_ok-arg-2.field-0, c.in_ok-arg-2.ensures, (c.in_ok-arg-3.field-0, c.in_ok-arg-3.ensures, (c.in_ok-arg-4.field-0, c.in_ok-arg-4.ensures, (command, added, refl)))))
-          (one_more_fits c.log_arg.result (c.archive_arg.result ∷ c.audited_master_arg.result ∷ c.all_arg.result ∷ c.until_arg.result ∷ []) c.log_arg.ensures.fits
-          (one_more_fits c.archive_arg.result (c.audited_master_arg.result ∷ c.all_arg.result ∷ c.until_arg.result ∷ []) c.archive_arg.ensures.fits
-          (one_more_fits c.audited_master_arg.result (c.all_arg.result ∷ c.until_arg.result ∷ []) c.audited_master_arg.ensures.fits
-          (one_more_fits c.all_arg.result (c.until_arg.result ∷ []) c.all_arg.ensures.fits
-          (one_more_fits c.until_arg.result [] c.until_arg.ensures.fits
-          none_fit)))));
+          (c.in_ok-arg.field-0, c.in_ok-arg.ensures, (c.in_ok-arg-2.field-0, c.in_ok-arg-2.ensures, (c.in_ok-arg-3.field-0, c.in_ok-arg-3.ensures, (c.in_ok-arg-4.field-0, c.in_ok-arg-4.ensures, (c.in_ok-arg-5.field-0, c.in_ok-arg-5.ensures, (c.in_ok-arg-6.field-0, c.in_ok-arg-6.ensures, (command, added, refl)))))))
+          (one_more_fits c.log_arg.result (c.archive_arg.result ∷ c.audited_master_arg.result ∷ c.all_arg.result ∷ c.until_arg.result ∷ c.manifest_arg.result ∷ c.no_manifest_arg.result ∷ []) c.log_arg.ensures.fits
+          (one_more_fits c.archive_arg.result (c.audited_master_arg.result ∷ c.all_arg.result ∷ c.until_arg.result ∷ c.manifest_arg.result ∷ c.no_manifest_arg.result ∷ []) c.archive_arg.ensures.fits
+          (one_more_fits c.audited_master_arg.result (c.all_arg.result ∷ c.until_arg.result ∷ c.manifest_arg.result ∷ c.no_manifest_arg.result ∷ []) c.audited_master_arg.ensures.fits
+          (one_more_fits c.all_arg.result (c.until_arg.result ∷ c.manifest_arg.result ∷ c.no_manifest_arg.result ∷ []) c.all_arg.ensures.fits
+          (one_more_fits c.until_arg.result (c.manifest_arg.result ∷ c.no_manifest_arg.result ∷ []) c.until_arg.ensures.fits
+          (one_more_fits c.manifest_arg.result (c.no_manifest_arg.result ∷ []) c.manifest_arg.ensures.fits
+          (one_more_fits c.no_manifest_arg.result [] c.no_manifest_arg.ensures.fits
+          none_fit)))))));
       log_is = c.log_arg.ensures.rule;
       archive_is = c.archive_arg.ensures.rule;
       master_is = c.audited_master_arg.ensures.rule;
       all_is = c.all_arg.ensures.rule;
       until_is = c.until_arg.ensures.rule;
+      manifest_is = c.manifest_arg.ensures.rule;
+      no_manifest_is = c.no_manifest_arg.ensures.rule;
       log_required = c.log_arg.ensures.value;
       until_parsed = c.until_arg.ensures.parser;
-    }) c.arg-5.ensures
+    }) c.arg-7.ensures
 
 pub returns-clause-app : goal.returns-clause-app
 returns-clause-app c =
@@ -62,5 +69,11 @@ returns-clause-app c =
     let with_4 = app_with c.in_ok-arg-3.field-0 c.in_ok-arg-4.field-0 c.all_arg.result app_3 all_rule
     c.in_ok-arg-4.ensures c.all_arg.ensures.fits.1 with_3 c.all_arg.ensures.rule in
     let app_4 = with_rule app_3 all_rule in
-    IfOk-weaker c.arg-5.result _ _ (λ command added. app_with c.in_ok-arg-4.field-0 command c.until_arg.result app_4
-    until_rule added c.until_arg.ensures.fits.1 with_4 c.until_arg.ensures.rule) c.arg-5.ensures
+    let with_5 = app_with c.in_ok-arg-4.field-0 c.in_ok-arg-5.field-0 c.until_arg.result app_4 until_rule
+    c.in_ok-arg-5.ensures c.until_arg.ensures.fits.1 with_4 c.until_arg.ensures.rule in
+    let app_5 = with_rule app_4 until_rule in
+    let with_6 = app_with c.in_ok-arg-5.field-0 c.in_ok-arg-6.field-0 c.manifest_arg.result app_5 manifest_rule
+    c.in_ok-arg-6.ensures c.manifest_arg.ensures.fits.1 with_5 c.manifest_arg.ensures.rule in
+    let app_6 = with_rule app_5 manifest_rule in
+    IfOk-weaker c.arg-7.result _ _ (λ command added. app_with c.in_ok-arg-6.field-0 command c.no_manifest_arg.result app_6
+    no_manifest_rule added c.no_manifest_arg.ensures.fits.1 with_6 c.no_manifest_arg.ensures.rule) c.arg-7.ensures

@@ -23,4 +23,9 @@ returns-clause-ok g c =
           (one_text-rows (found_of c.in_ok-matches.matches) (codes "with_force") ∙ ap (one_of (codes "with_force")) rows)
           (c.get_flag-force.ensures.none, c.get_flag-force.ensures.value, c.get_flag-force.ensures.other),
       subst (λ found. IsTold (one_of (codes "until_lsn") found) c.number_in-until.result) rows c.number_in-until.ensures,
+      c.get_str-manifest.ensures
+          ∙ (first_value-rows found (codes "manifest_file") ∙ ap (first_of (codes "manifest_file")) rows),
+      subst (λ o. IsFlag o c.get_flag-no_manifest.result)
+          (one_text-rows found (codes "without_sums") ∙ ap (one_of (codes "without_sums")) rows)
+          (c.get_flag-no_manifest.ensures.none, c.get_flag-no_manifest.ensures.value, c.get_flag-no_manifest.ensures.other),
     )

@@ -2,8 +2,8 @@ use Rattle.std.proofs.Common.{[], ap, codes, refl, ◌∙◌, ◌∷◌}
 use Rattle.std.proofs.lemmas.Result.{IfOk-weaker}
 use Rattle.clap.specs.declared.builder.command.Command.{Command as Parser}
 use Rattle.clap.specs.declared.builder.command.Command.TheOpen.{Command-F}
-use Rattle.clap.specs.Simple.{app_of_fields, new_app}
-use Rattle.command_words.specs.Command.{folder_rule}
+use Rattle.clap.specs.Simple.{app_of_fields, new_app, with_rule}
+use Rattle.command_words.specs.Command.{folder_rule, manifest_rule, no_manifest_rule}
 use Rattle.command_words.proofs.ChainLemmas.{made_of, none_fit, one_more_fits}
 use Rattle.command_words.proofs.RequiredLemmas.{app_with}
 use Rattle.command_words.proofs.folder_words.verify_command.Goals as goal
@@ -16,20 +16,26 @@ returns-clause-made c =
     let negates = λ (f : Command-F Parser). f.subcommand_negates_reqs in
     let named = c.in_ok-bin_name.ensures.0 in
     let shown = c.override_usage.ensures in
-    IfOk-weaker c.arg.result _ _ (λ command added. record {
+    IfOk-weaker c.arg-3.result _ _ (λ command added. record {
       folder = c.folder_arg.result;
+      manifest = c.manifest_arg.result;
+      no_manifest = c.no_manifest_arg.result;
       made = made_of c.in_ok-bin_name.field-0 command
-          (c.folder_arg.result ∷ [])
+          (c.folder_arg.result ∷ c.manifest_arg.result ∷ c.no_manifest_arg.result ∷ [])
           (ap args named ∙ (ap args shown ∙ (ap args c.about.ensures ∙ c.new.ensures.empty.0)))
           (ap groups named ∙ (ap groups shown ∙ (ap groups c.about.ensures ∙ c.new.ensures.empty.1)))
           (ap globals named ∙ (ap globals shown ∙ (ap globals c.about.ensures ∙ c.new.ensures.local)))
           (ap negates named ∙ (ap negates shown ∙ (ap negates c.about.ensures ∙ c.new.ensures.negates)))
-          (command, added, refl)
-          (one_more_fits c.folder_arg.result [] c.folder_arg.ensures.fits
-          none_fit);
+          (c.in_ok-arg.field-0, c.in_ok-arg.ensures, (c.in_ok-arg-2.field-0, c.in_ok-arg-2.ensures, (command, added, refl)))
+          (one_more_fits c.folder_arg.result (c.manifest_arg.result ∷ c.no_manifest_arg.result ∷ []) c.folder_arg.ensures.fits
+          (one_more_fits c.manifest_arg.result (c.no_manifest_arg.result ∷ []) c.manifest_arg.ensures.fits
+          (one_more_fits c.no_manifest_arg.result [] c.no_manifest_arg.ensures.fits
+          none_fit)));
       folder_is = c.folder_arg.ensures.rule;
+      manifest_is = c.manifest_arg.ensures.rule;
+      no_manifest_is = c.no_manifest_arg.ensures.rule;
       required = c.folder_arg.ensures.value;
-    }) c.arg.ensures
+    }) c.arg-3.ensures
 
 pub returns-clause-app : goal.returns-clause-app
 returns-clause-app c =
@@ -37,5 +43,11 @@ returns-clause-app c =
     let shown = c.override_usage.ensures in
     let start = ap app_of_fields named ∙ (ap app_of_fields shown ∙ (ap app_of_fields c.about.ensures ∙ c.new.ensures.app)) in
     let app_0 = new_app (codes "verify") in
-    IfOk-weaker c.arg.result _ _ (λ command added. app_with c.in_ok-bin_name.field-0 command c.folder_arg.result app_0
-    folder_rule added c.folder_arg.ensures.fits.1 start c.folder_arg.ensures.rule) c.arg.ensures
+    let with_1 = app_with c.in_ok-bin_name.field-0 c.in_ok-arg.field-0 c.folder_arg.result app_0 folder_rule
+    c.in_ok-arg.ensures c.folder_arg.ensures.fits.1 start c.folder_arg.ensures.rule in
+    let app_1 = with_rule app_0 folder_rule in
+    let with_2 = app_with c.in_ok-arg.field-0 c.in_ok-arg-2.field-0 c.manifest_arg.result app_1 manifest_rule
+    c.in_ok-arg-2.ensures c.manifest_arg.ensures.fits.1 with_1 c.manifest_arg.ensures.rule in
+    let app_2 = with_rule app_1 manifest_rule in
+    IfOk-weaker c.arg-3.result _ _ (λ command added. app_with c.in_ok-arg-2.field-0 command c.no_manifest_arg.result app_2
+    no_manifest_rule added c.no_manifest_arg.ensures.fits.1 with_2 c.no_manifest_arg.ensures.rule) c.arg-3.ensures

@@ -1,6 +1,7 @@
-use Rattle.std.proofs.Common.{ap, codes, sym, ◌∙◌}
-use Rattle.clap.specs.Words.{found_of, first_of}
-use Rattle.clap.proofs.WalkLemmas.{first_value-rows}
+use Rattle.std.proofs.Common.{ap, codes, subst, sym, ◌∙◌}
+use Rattle.clap.specs.Words.{found_of, first_of, one_of}
+use Rattle.clap.proofs.WalkLemmas.{first_value-rows, one_text-rows}
+use Rattle.command_words.specs.Command.{IsFlag}
 use Rattle.command_words.proofs.folder_words.verify_of.Goals as goal
 
 pub returns-clause-ok : goal.returns-clause-ok
@@ -10,4 +11,9 @@ returns-clause-ok g c =
       (c.requires, c.in_ok-matches.ensures.taken),
       ap (first_of (codes "dir")) (sym rows)
           ∙ (sym (first_value-rows found (codes "dir")) ∙ c.value_in-folder.ensures),
+      c.get_str-manifest.ensures
+          ∙ (first_value-rows found (codes "manifest_file") ∙ ap (first_of (codes "manifest_file")) rows),
+      subst (λ o. IsFlag o c.get_flag-no_manifest.result)
+          (one_text-rows found (codes "without_sums") ∙ ap (one_of (codes "without_sums")) rows)
+          (c.get_flag-no_manifest.ensures.none, c.get_flag-no_manifest.ensures.value, c.get_flag-no_manifest.ensures.other),
     )

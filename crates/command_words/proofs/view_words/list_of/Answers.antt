@@ -14,4 +14,9 @@ returns-clause-ok g c =
       subst (λ o. IsFlag o c.get_flag-json.result)
           (one_text-rows found (codes "as_json") ∙ ap (one_of (codes "as_json")) rows)
           (c.get_flag-json.ensures.none, c.get_flag-json.ensures.value, c.get_flag-json.ensures.other),
+      c.get_str-manifest.ensures
+          ∙ (first_value-rows found (codes "manifest_file") ∙ ap (first_of (codes "manifest_file")) rows),
+      subst (λ o. IsFlag o c.get_flag-no_manifest.result)
+          (one_text-rows found (codes "without_sums") ∙ ap (one_of (codes "without_sums")) rows)
+          (c.get_flag-no_manifest.ensures.none, c.get_flag-no_manifest.ensures.value, c.get_flag-no_manifest.ensures.other),
     )
