@@ -173,7 +173,7 @@ class Bank:
         audit = subprocess.run([self.imgcopy, "audit", log, *names], capture_output=True, timeout=SECONDS_OF_A_RUN)
         if (audit.returncode, audit.stdout, audit.stderr) != (0, b"sound\n", b""):
             raise Failure(f"{name}: audit has status {audit.returncode}, {audit.stdout!r}, {audit.stderr[:200]!r}")
-        words = [self.imgcopy, "restore", log, saved / "master", *names]
+        words = [self.imgcopy, "restore", "--no-manifest", log, saved / "master", *names]
         restored = subprocess.run(words, capture_output=True, timeout=SECONDS_OF_A_RUN)
         if restored.returncode != 0 or restored.stderr:
             raise Failure(f"{name}: restore has status {restored.returncode}, {restored.stderr[:200]!r}")

@@ -344,7 +344,7 @@ class Judge:
 
     def restore(self, chain, slots):
         """The chain and the log give these slots, and no others."""
-        done, name = self.run("restore", "log", "master", *chain), f"restore log master {' '.join(chain)}"
+        done, name = self.run("restore", "--no-manifest", "log", "master", *chain), f"restore log master {' '.join(chain)}"
         if done.returncode != 0 or done.stderr:
             raise Failure(f"{name}: status {done.returncode}, {done.stderr[:200]!r}")
         pages = [decode_page(done.stdout[at:at + PAGE_SIZE]) for at in range(0, len(done.stdout), PAGE_SIZE)]

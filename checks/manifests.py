@@ -2,22 +2,28 @@
 
 usage: python3 -m checks.manifests PROGRAM [STEP]
 
-`run --save` saves two days, of one shape and with other numbers, into folders that have an empty manifest. Each manifest
-has to be the text that hashlib makes, and `sha256sum -c` has to accept it. Restores and audits of the unchanged files
-answer as they do without a manifest. Then a bit is flipped in each byte of each file, or in each STEP-th one, a file of
-the other day takes the place of the one of its name, the log is cut at each record, and it grows: nothing but a grown log
-may give a volume, and no audit may call another file sound. A manifest is cut, flipped, emptied, and taken from the other
-day.
+`run --save` saves two days, of one shape and with other numbers. Each manifest has to be the text that hashlib makes, and
+`sha256sum -c` has to accept it. Restores and audits of the unchanged files answer as they do without a manifest. Then a bit
+is flipped in each byte of each file, a file of the other day takes the place of the one of its name, the log is cut at each
+record, and it grows: nothing but a grown log may give a volume, and no audit may call another file sound. A manifest is cut,
+flipped, emptied, and taken from the other day. A smaller folder, whose files and manifest the model makes, has each bit of
+each file flipped; its manifest stands beside the files, or elsewhere and is told by --manifest. With STEP, 1 where none is
+told, each STEP-th byte or bit is flipped, and the manifest is cut at each STEP-th byte. Then `list` and `verify` are asked of changed files, and all four commands are
+given --no-manifest, and both options at once.
 """
 
-import hashlib
+import os
 import re
 import shutil
 import subprocess
 import sys
 import tempfile
 from collections import Counter
+from concurrent.futures import ThreadPoolExecutor
 from pathlib import Path
+
+from checks.manifest_text import WrongManifest, head_of, manifest_of, without_manifest
+from model.scripts import run
 
 EXAMPLES = Path(__file__).resolve().parent.parent / "examples"
 PAGES, RECORD = "3", 64
@@ -25,29 +31,25 @@ CHAIN = ("copy-1", "copy-2", "copy-3")
 FILES = ("log", "master", *CHAIN)
 OTHER = "is not the file that the manifest names"
 UNNAMED = "the manifest beside it does not name it"
-HEAD = re.compile(rb"# imgcopy manifest 1 database [0-9a-f]{32}\n")
+BARE = "imgcopy: no manifest stands beside the files: they are not compared\n"
+WAY_ON = "--no-manifest"
+BOTH = "error: the argument '--manifest <FILE>' cannot be used with '--no-manifest'\n"
 MOST_SECONDS = 60
+SMALL_CHAIN = ("copy-1", "copy-2")
+SMALL = """ckpt; gather; gather; endckpt; full; take 1 0; seal 1; begin; set 1 0 0 5; commit 1; wbegin 0; wend 0
+           ckpt; gather; gather; endckpt; inc 1; take 2 0; seal 2; begin; add 2 0 1 7"""
+SMALL_HEAD = b"# imgcopy manifest 1 database 00112233445566778899aabbccddeeff\n"
 
 
 class Failure(Exception):
     """What differs, in one line."""
 
 
-def manifest_of(files, head):
-    """The manifest of these files behind this head: of the log its first bytes are summed."""
-    text = head
-    for name in FILES:
-        data, digest = files[name], hashlib.sha256(files[name]).hexdigest()
-        text += (f"# first {len(data)} " if name == "log" else f"# whole {len(data)}\n").encode()
-        text += f"{digest}  {name}\n".encode()
-    return text
-
-
-def head_of(manifest):
-    found = HEAD.match(manifest)
-    if not found:
-        raise Failure(f"a manifest begins with {manifest[:70]!r}")
-    return found.group()
+def see(what, done, status, output, error):
+    """How a command ended, and what it said."""
+    given = (done.returncode, done.stdout, done.stderr.decode())
+    if given != (status, output, error):
+        raise Failure(f"{what}: {str(given)[:300]} in place of {str((status, output, error))[:300]}")
 
 
 class Folder:
@@ -68,28 +70,28 @@ class Folder:
     def put(self, name, data):
         (self.place / name).write_bytes(data)
 
-    def restore(self):
-        return self.run("restore", *FILES)
+    def restore(self, *options):
+        return self.run("restore", *options, *FILES)
 
-    def audit(self):
-        return self.run("audit", "--master", "master", "log", *CHAIN)
+    def audit(self, *options):
+        return self.run("audit", *options, "--master", "master", "log", *CHAIN)
 
-    def refused(self, what, is_other=False):
-        """No volume is written, and an audit calls nothing sound. Where the file is read to its end it is told."""
-        done, audited = self.restore(), self.audit()
+    def refused(self, what, *options, is_other=False):
+        """No volume is written, and an audit calls nothing sound. Where the file is read to its end it is told, and what to
+        do."""
+        done, audited = self.restore(*options), self.audit(*options)
         if done.returncode not in (1, 2) or done.stdout or not done.stderr:
             raise Failure(f"{what}: a restore ends with status {done.returncode}, {done.stderr[:120]!r}")
         if audited.returncode not in (1, 2) or b"sound\n" == audited.stdout:
             raise Failure(f"{what}: an audit ends with status {audited.returncode}, {audited.stdout[:60]!r}")
-        told = OTHER.encode() in done.stderr
+        told = f": {OTHER}".encode() in done.stderr and WAY_ON.encode() in done.stderr
         if (is_other or b"E33 ReadFault" in done.stderr) and not told:
             raise Failure(f"{what}: the restore tells {done.stderr[:200]!r}")
         self.counts["told as another file" if told else "told as a fault in the file"] += 1
 
-    def taken(self, what, volume, told=b""):
-        done, audited = self.restore(), self.audit()
-        if (done.returncode, done.stdout, done.stderr) != (0, volume, told):
-            raise Failure(f"{what}: a restore ends with status {done.returncode}, {done.stderr[:200]!r}")
+    def taken(self, what, volume, *options, told=""):
+        see(f"{what}, a restore", self.restore(*options), 0, volume, told)
+        audited = self.audit(*options)
         if (audited.returncode, audited.stdout) != (0, b"sound\n"):
             raise Failure(f"{what}: an audit ends with status {audited.returncode}, {audited.stderr[:200]!r}")
         self.counts["taken"] += 1
@@ -97,22 +99,20 @@ class Folder:
 
 def day_of(folder, script):
     """The files of a day, and the volume that they restore without a manifest."""
-    folder.fill({"manifest": b""})
+    folder.fill({})
     done = folder.run("run", "--pages", PAGES, "--save", ".", data=script)
-    if done.returncode or done.stderr:
-        raise Failure(f"run --save beside an empty manifest: status {done.returncode}, {done.stderr[:200]!r}")
+    see("run --save", done, 0, done.stdout, "")
     files = {path.name: path.read_bytes() for path in folder.place.iterdir()}
-    if set(files) != {"manifest", *FILES}:
+    if set(without_manifest(files)) != set(FILES):
         raise Failure(f"the save leaves {sorted(files)}")
-    if files["manifest"] != manifest_of(files, head_of(files["manifest"])):
-        raise Failure("the manifest is not the one of hashlib")
     summed = subprocess.run(["sha256sum", "-c", "--strict", "manifest"], cwd=folder.place, capture_output=True, check=False)
     if summed.returncode or summed.stdout.decode().splitlines() != [f"{name}: OK" for name in FILES[1:]]:
         raise Failure(f"sha256sum -c: status {summed.returncode}, {summed.stdout!r}, {summed.stderr!r}")
     (folder.place / "manifest").unlink()
     done = folder.restore()
-    if done.returncode or done.stderr:
-        raise Failure(f"a restore without a manifest: status {done.returncode}, {done.stderr[:200]!r}")
+    see("a restore without a manifest", done, 0, done.stdout, BARE)
+    see("the same by --no-manifest", folder.restore("--no-manifest"), 0, done.stdout, "")
+    see("an audit without a manifest", folder.audit(), 0, b"sound\n", "")
     folder.fill(files)
     folder.taken("the files as they were saved", done.stdout)
     return files, done.stdout
@@ -128,17 +128,18 @@ def check_flips(folder, files, step):
         folder.put(name, files[name])
 
 
-def check_others(folder, files, others):
+def check_others(folder, files, others, *options):
     for name in FILES:
         if files[name] == others[name]:
             continue
         folder.put(name, others[name])
-        folder.refused(f"{name} is of the other day", is_other=True)
+        folder.refused(f"{name} is of the other day", *options, is_other=True)
         folder.put(name, files[name])
     for name in FILES:
         folder.put(name, others[name])
-    folder.refused("all files are of the other day", is_other=True)
-    folder.fill(files)
+    folder.refused("all files are of the other day", *options, is_other=True)
+    for name in FILES:
+        folder.put(name, files[name])
 
 
 def check_logs(folder, files, volume):
@@ -167,13 +168,14 @@ def check_grown_master(folder, files):
     done = folder.run("open", ".", data=b"ckpt\n" + b"gather\n" * int(PAGES) + b"endckpt\n")
     if (folder.place / "master").read_bytes() == files["master"]:
         raise Failure(f"open: status {done.returncode}, and no master record, {done.stdout[-200:]!r}")
+    folder.put("manifest", files["manifest"])
     done = folder.restore()
     if done.returncode or done.stderr:
         raise Failure(f"behind an open database a restore ends with status {done.returncode}, {done.stderr[:200]!r}")
     folder.fill(files)
 
 
-def check_manifests(folder, files, others, volume):
+def check_manifests(folder, files, others, volume, step):
     manifest = files["manifest"]
     for text, line in ((b"", 1), (manifest[:-1], None), (manifest[:20], 1), (b"# imgcopy manifest 2" + manifest[20:], 1),
                        (manifest + b"\n", None), (manifest + manifest.splitlines(True)[1], None), (b"\xff" * 90, 1)):
@@ -181,26 +183,142 @@ def check_manifests(folder, files, others, volume):
         line = line or text.count(b"\n") + (not text.endswith(b"\n"))
         for done in (folder.restore(), folder.audit()):
             wanted = f"E33 ReadFault\nimgcopy: ./manifest: line {line}: "
-            if done.returncode != 2 or done.stdout or not done.stderr.decode().startswith(wanted):
+            told = done.stderr.decode()
+            if done.returncode != 2 or done.stdout or not told.startswith(wanted) or WAY_ON not in told:
                 raise Failure(f"a manifest {text[:40]!r}..: status {done.returncode}, {done.stderr[:200]!r}")
-    for cut in range(len(manifest)):
+        folder.taken(f"a manifest {text[:40]!r} is left aside", volume, "--no-manifest")
+    for cut in range(0, len(manifest), step):
         folder.put("manifest", manifest[:cut])
         done = folder.restore()
         if done.returncode == 0 and UNNAMED.encode() not in done.stderr or done.returncode and done.stdout:
             raise Failure(f"a manifest cut at {cut}: status {done.returncode}, {done.stderr[:200]!r}")
     names = len(head_of(manifest))
-    for at in range(len(manifest)):
+    for at in range(0, len(manifest), step):
         changed = bytearray(manifest)
         changed[at] ^= 1 << at % 3
         folder.put("manifest", changed)
         done = folder.restore()
         if done.returncode == 0 and at >= names and UNNAMED.encode() not in done.stderr:
             raise Failure(f"a bit of byte {at} of the manifest is flipped: status 0, {done.stderr[:200]!r}")
+        if done.returncode and WAY_ON.encode() not in done.stderr:
+            raise Failure(f"a bit of byte {at} of the manifest is flipped: {done.stderr[:200]!r}")
     folder.put("manifest", others["manifest"])
     folder.refused("the manifest is of the other day", is_other=True)
+    folder.taken("the manifest of the other day is left aside", volume, "--no-manifest")
     (folder.place / "manifest").unlink()
-    folder.taken("the manifest is moved away", volume)
+    folder.taken("the manifest is moved away", volume, told=BARE)
     folder.fill(files)
+
+
+def check_told(folder, files, others, volume):
+    """The manifest stands elsewhere, under any name, and is told. One that stands beside the files does not count then."""
+    elsewhere = folder.place.with_name("sums of the day")
+    elsewhere.write_bytes(files["manifest"])
+    told = ("--manifest", str(elsewhere))
+    for beside in (None, others["manifest"], b"", b"no manifest"):
+        folder.fill(without_manifest(files))
+        if beside is not None:
+            folder.put("manifest", beside)
+        folder.taken(f"a manifest is told, and {str(beside)[:20]} stands beside the files", volume, *told)
+    check_others(folder, files, others, *told)
+    folder.put("log", files["log"][:-RECORD])
+    folder.refused("the log is shorter than the manifest that is told", *told)
+    folder.put("log", files["log"])
+    # The files stand in two folders, neither of which is that of the manifest.
+    away = folder.place.with_name("away")
+    away.mkdir()
+    for name in CHAIN:
+        (folder.place / name).rename(away / name)
+    words = ("log", "master", *(str(away / name) for name in CHAIN))
+    see("files in two folders", folder.run("restore", *told, *words), 0, volume, "")
+    (away / "copy-2").write_bytes(others["copy-2"])
+    done = folder.run("restore", *told, *words)
+    if done.returncode != 2 or done.stdout or f"{away}/copy-2 (image copy): {OTHER}".encode() not in done.stderr:
+        raise Failure(f"another file in two folders: status {done.returncode}, {done.stderr[:200]!r}")
+    # One of its names is left out, and it is none, and it is not there.
+    folder.fill(files)
+    lines = files["manifest"].splitlines(True)
+    elsewhere.write_bytes(b"".join(lines[:-2]))
+    folder.taken("a name is left out of the manifest that is told", volume, *told,
+                 told=f"imgcopy: copy-3: {elsewhere} does not name it\n")
+    elsewhere.write_bytes(files["manifest"][:-1])
+    for command in (folder.restore, folder.audit):
+        done = command(*told)
+        if done.returncode != 2 or done.stdout or not done.stderr.startswith(f"E33 ReadFault\nimgcopy: {elsewhere}: line ".encode()):
+            raise Failure(f"a told manifest that is cut: status {done.returncode}, {done.stderr[:200]!r}")
+    elsewhere.unlink()
+    for command in (folder.restore, folder.audit):
+        see("a told manifest that is not there", command(*told), 2, b"",
+            f"E33 ReadFault\nimgcopy: {elsewhere}: No such file or directory (os error 2)\n")
+    # By --no-manifest another file is read as if no manifest stood there.
+    for name in FILES:
+        folder.put(name, others[name])
+    see("files of the other day, and no manifest", folder.audit("--no-manifest"), 0, b"sound\n", "")
+    folder.fill(files)
+    for words in (["restore", *FILES], ["audit", "log", *CHAIN], ["verify", "."], ["list", "."]):
+        done = folder.run(words[0], "--manifest", "manifest", "--no-manifest", *words[1:])
+        if done.returncode != 2 or done.stdout or not done.stderr.decode().startswith(BOTH):
+            raise Failure(f"{words[0]} with both: status {done.returncode}, {done.stderr[:200]!r}")
+
+
+def line_of_length(place, what, has, named):
+    return f"imgcopy: {place} ({what}): {OTHER}: it has {has} bytes, and {named} are named: put that file there, or go on by" \
+        f" {WAY_ON}\n"
+
+
+def check_lists(folder, files, others):
+    """`list` compares how many bytes a copy has, and the log whole."""
+    shown = folder.run("list", ".")
+    see("a list", shown, 0, shown.stdout, "")
+    for name, data in (("copy-1", files["copy-1"] + b"\0"), ("copy-3", files["copy-3"][:-1])):
+        folder.put(name, data)
+        done, aside = folder.run("list", "."), folder.run("list", "--no-manifest", ".")
+        line = line_of_length(f"./{name}", "image copy", len(data), len(files[name]))
+        if done.returncode != 2 or not done.stderr.decode().endswith(line) or OTHER.encode() in aside.stderr:
+            raise Failure(f"list, another length of {name}: status {done.returncode}, {done.stderr!r}, {aside.stderr!r}")
+        see(f"list, another length of {name}", aside, 2, done.stdout, done.stderr.decode().removesuffix(line))
+        folder.put(name, files[name])
+    cut = files["log"][:-RECORD]
+    folder.put("log", cut)
+    done = folder.run("list", ".")
+    if done.returncode != 2 or line_of_length("./log", "log", len(cut), len(files["log"])).encode() not in done.stderr:
+        raise Failure(f"list, a log that is cut: status {done.returncode}, {done.stderr[:200]!r}")
+    folder.put("log", others["log"])
+    done = folder.run("list", ".")
+    line = f"imgcopy: ./log (log): {OTHER}, by {len(files['log'])} bytes of it: put that file there, or go on by {WAY_ON}\n"
+    see("list, the log of the other day", done, 2, done.stdout, line)
+    folder.put("log", files["log"])
+    (folder.place / "manifest").rename(folder.place / "moved")
+    see("list without a manifest", folder.run("list", "."), 0, shown.stdout, "")
+    see("list by a manifest that is told", folder.run("list", ".", "--manifest", "moved"), 0, shown.stdout, "")
+    folder.fill(files)
+    folder.counts["lists"] += 8
+
+
+def check_verify(folder, files, others):
+    """`verify` prints a line for each file, in the order of the manifest, and one for each copy."""
+    copies = "".join(f"copy {number} sound\n" for number in (1, 2, 3)).encode()
+    sound = "".join(f"{name} sound\n" for name in FILES).encode() + copies
+    see("verify", folder.run("verify", "."), 0, sound, "")
+    see("verify --no-manifest", folder.run("verify", "--no-manifest", "."), 0, copies, "")
+    for name in FILES:
+        if files[name] == others[name]:
+            continue
+        folder.put(name, others[name])
+        done = folder.run("verify", ".")
+        lines = "".join(f"{each} {OTHER if each == name else 'sound'}\n" for each in FILES).encode()
+        if done.returncode != 2 or not done.stdout.startswith(lines):
+            raise Failure(f"verify, {name} of the other day: status {done.returncode}, {done.stdout[:200]!r}")
+        folder.put(name, files[name])
+    (folder.place / "manifest").rename(folder.place / "moved")
+    see("verify without a manifest", folder.run("verify", "."), 0, copies, "imgcopy: .: there is no manifest\n")
+    see("verify by a manifest that is told", folder.run("verify", "--manifest", "moved", "."), 0, sound, "")
+    (folder.place / "copy-3").unlink()
+    done = folder.run("verify", "--manifest", "moved", ".")
+    if done.returncode != 2 or f"copy-3 {OTHER}\n".encode() not in done.stdout or b"./copy-3: No such file" not in done.stderr:
+        raise Failure(f"verify without a copy: status {done.returncode}, {done.stdout[:200]!r}, {done.stderr[:200]!r}")
+    folder.fill(files)
+    folder.counts["verifications"] += 10
 
 
 def check_again(folder, files, others, script):
@@ -215,6 +333,58 @@ def check_again(folder, files, others, script):
     folder.fill(files)
 
 
+# Each bit of a small folder
+
+def refuses(program, place, options, name, data, at):
+    """Whether a restore refuses the files, one of which has another bit; what it says where it does not."""
+    changed = bytearray(data)
+    changed[at // 8] ^= 1 << at % 8
+    (place / name).write_bytes(changed)
+    done = subprocess.run([program, "restore", *options, "log", "master", *SMALL_CHAIN], capture_output=True, cwd=place,
+                          timeout=MOST_SECONDS, check=False)
+    if done.returncode in (1, 2) and done.stderr and not done.stdout:
+        return None
+    return f"bit {at} of {name} is flipped: a restore ends with status {done.returncode}, {done.stderr[:200]!r}"
+
+
+def flip_bits(program, place, files, options, step, worker):
+    """Flips its share of the bits, and says how many it flipped."""
+    place.mkdir()
+    for name, data in files.items():
+        (place / name).write_bytes(data)
+    count = 0
+    for name in ("log", "master", *SMALL_CHAIN):
+        for at in range(step * worker, 8 * len(files[name]), step * (os.cpu_count() or 1)):
+            why = refuses(program, place, options, name, files[name], at)
+            if why:
+                raise Failure(why)
+            count += 1
+        (place / name).write_bytes(files[name])
+    return count
+
+
+def check_bits(folder, program, step):
+    """The model makes the files and their manifest, which stands beside them, or elsewhere."""
+    text = re.sub(r"; *|\n *", "\n", SMALL).encode() + b"\n"
+    files = run(text, 1).files
+    if set(files) != {"log", "master", *SMALL_CHAIN}:
+        raise Failure(f"the model saves {sorted(files)}")
+    manifest = manifest_of(files, SMALL_HEAD)
+    elsewhere = folder.place.with_name("small sums")
+    elsewhere.write_bytes(manifest)
+    words = ("log", "master", *SMALL_CHAIN)
+    for what, all_files, options, each in (("beside", files | {"manifest": manifest}, (), step),
+                                           ("told", files, ("--manifest", str(elsewhere)), 8 * step + 1)):
+        folder.fill(all_files)
+        done = folder.run("restore", *options, *words)
+        see(f"a small folder, the manifest {what}", done, 0, done.stdout, "")
+        workers = os.cpu_count() or 1
+        with ThreadPoolExecutor(workers) as pool:
+            counts = pool.map(lambda worker: flip_bits(program, folder.place.with_name(f"{what}-{worker}"), all_files, options,
+                                                       each, worker), range(workers))
+            folder.counts[f"bits flipped, the manifest {what}"] += sum(counts)
+
+
 def main(arguments):
     try:
         if not 1 <= len(arguments) <= 2 or not all(number.isdigit() for number in arguments[1:]):
@@ -222,20 +392,24 @@ def main(arguments):
         program = shutil.which(arguments[0])
         if program is None:
             raise Failure(f"there is no program {arguments[0]}")
-        step = int(arguments[1]) if arguments[1:] else 1
+        program, step = str(Path(program).resolve()), int(arguments[1]) if arguments[1:] else 1
         script = (EXAMPLES / "day.script").read_bytes().partition(b"\nrestore")[0] + b"\n"
         second = re.sub(rb"(?m)^((?:set|add) \d+ \d+ \d+ )(\d+)$", lambda it: it[1] + b"%d" % (int(it[2]) + 1), script)
         with tempfile.TemporaryDirectory() as place:
-            folder = Folder(str(Path(program).resolve()), Path(place) / "day")
+            folder = Folder(program, Path(place) / "day")
             others, _ = day_of(folder, second)
             files, volume = day_of(folder, script)
             check_others(folder, files, others)
             check_logs(folder, files, volume)
             check_grown_master(folder, files)
-            check_manifests(folder, files, others, volume)
+            check_manifests(folder, files, others, volume, step)
+            check_told(folder, files, others, volume)
+            check_lists(folder, files, others)
+            check_verify(folder, files, others)
             check_again(folder, files, others, script)
             check_flips(folder, files, step)
-    except (Failure, OSError, subprocess.SubprocessError) as failure:
+            check_bits(folder, program, step)
+    except (Failure, WrongManifest, OSError, subprocess.SubprocessError) as failure:
         print(f"FAILED manifests: {failure}")
         return 1
     print("ok manifests: " + ", ".join(f"{count} {what}" for what, count in sorted(folder.counts.items())))

@@ -12,18 +12,19 @@ _imgcopy() {
     case $before in
         --pages | --frames | --on | --from | --to | --txn | --page | --until) return ;;
         --save | --into) compopt -o filenames; COMPREPLY=($(compgen -d -- "$word")); return ;;
-        -o | --output | --log-out | --master) compopt -o filenames; COMPREPLY=($(compgen -f -- "$word")); return ;;
+        -o | --output | --log-out | --master | --manifest) compopt -o filenames; COMPREPLY=($(compgen -f -- "$word")); return ;;
     esac
     case ${COMP_WORDS[1]} in
         redo) options="-o --output --force --until --help" ;;
         run) options="--pages --frames --save --force --strict --help" ;;
         open) options="--pages --frames --salvage --strict --help" ;;
         backup) options="--on --full --into --help" ;;
-        restore) options="-o --output --log-out --force --until --help" ;;
-        audit) options="--all --master --until --help" ;;
-        verify | renew) options="--help" ;;
+        restore) options="-o --output --log-out --force --until --manifest --no-manifest --help" ;;
+        audit) options="--all --master --until --manifest --no-manifest --help" ;;
+        verify) options="--manifest --no-manifest --help" ;;
+        renew) options="--help" ;;
         show) options="--from --to --txn --page --commits --json --help" ;;
-        list) options="--json --help" ;;
+        list) options="--json --manifest --no-manifest --help" ;;
     esac
     if [[ $word == -* ]]; then
         COMPREPLY=($(compgen -W "$options" -- "$word"))

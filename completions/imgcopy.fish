@@ -31,6 +31,8 @@ complete -c imgcopy -n '__fish_seen_subcommand_from backup' -l full -d 'A full c
 complete -c imgcopy -n '__fish_seen_subcommand_from backup' -l into -x -a '(__fish_complete_directories)' -d 'A folder for the files, too'
 complete -c imgcopy -n '__fish_seen_subcommand_from audit' -l all -d 'Each unsound page'
 complete -c imgcopy -n '__fish_seen_subcommand_from audit' -l master -r -F -d 'A master record'
+complete -c imgcopy -n '__fish_seen_subcommand_from restore audit verify list' -l manifest -r -F -d 'The manifest of the files'
+complete -c imgcopy -n '__fish_seen_subcommand_from restore audit verify list' -l no-manifest -d 'Look at no manifest'
 complete -c imgcopy -n '__fish_seen_subcommand_from show' -l from -x -d 'The least LSN'
 complete -c imgcopy -n '__fish_seen_subcommand_from show' -l to -x -d 'The greatest LSN'
 complete -c imgcopy -n '__fish_seen_subcommand_from show' -l txn -x -d 'A transaction'

@@ -27,19 +27,26 @@ pub fn audit(rt: &HostRuntime, names: &Named<'_>, all: bool) -> ExitCode {
     let Some(checks) = Checks::of(rt, names) else {
         return ExitCode::from(FAULT_STATUS);
     };
+    let status = audit_known(rt, (names, &notes, &checks), all);
+    if status == ExitCode::SUCCESS {
+        checks.tell_unnamed(rt);
+    }
+    status
+}
+
+/// The same, of files of which it is known what manifests say.
+fn audit_known(rt: &HostRuntime, read: (&Named<'_>, &Notes, &Checks<'_>), all: bool) -> ExitCode {
+    let (names, notes, _) = read;
     if let Some(until) = names.until {
-        return audit_until(rt, (names, &notes, &checks), all, until);
+        return audit_until(rt, read, all, until);
     }
     if names.master.is_none() && !all {
-        let files = SystemFiles {
-            files: rt,
-            notes: &notes,
-        };
-        return audit_checked(rt, &files, (names, &notes, &checks), all);
+        let files = SystemFiles { files: rt, notes };
+        return audit_checked(rt, &files, read, all);
     }
-    match ReadOnce::of(rt, names, &notes) {
-        Ok(files) => audit_checked(rt, &&files, (names, &notes, &checks), all),
-        Err(fault) => told_unkept(rt, (names, &notes, &checks), &fault),
+    match ReadOnce::of(rt, names, notes) {
+        Ok(files) => audit_checked(rt, &&files, read, all),
+        Err(fault) => told_unkept(rt, read, &fault),
     }
 }
 

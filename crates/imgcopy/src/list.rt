@@ -1,9 +1,11 @@
 //! The command `list`.
 
 use crate::advice::tell_unwritten;
+use crate::listed_sums::are_named;
 use crate::reasons::tell_view;
 use crate::view::bytes_of;
 use crate::{noted, patient};
+use checked_files::ManifestUse;
 use copy_vault::ArchiveFault;
 use file_view::{
     CopyFlaw, CopyHeader, Form, LogFacts, Rows, ViewFault, facts_of, put_copies, put_log,
@@ -19,8 +21,9 @@ use std::{fs, io};
 use system_files::{Escaped, Notes, copy_id};
 
 /// Lists the copies of a folder, and what restores of them would do. It goes on behind a file that
-/// is wrong, which is told, and the status is that of a fault then.
-pub fn list(rt: &HostRuntime, folder: &str, form: Form) -> ExitCode {
+/// is wrong, or is not the one that the manifest names, which is told, and the status is that of a
+/// fault then.
+pub fn list(rt: &HostRuntime, folder: &str, form: Form, manifest: ManifestUse<'_>) -> ExitCode {
     let ids = match ids_in(rt, folder) {
         Ok(ids) => ids,
         Err(fault) => {
@@ -28,7 +31,7 @@ pub fn list(rt: &HostRuntime, folder: &str, form: Form) -> ExitCode {
             return ExitCode::from(FAULT_STATUS);
         }
     };
-    match listed(rt, folder, form, ids.as_slice()) {
+    match listed(rt, folder, form, manifest, ids.as_slice()) {
         Ok(true) => ExitCode::SUCCESS,
         Ok(false) => ExitCode::from(FAULT_STATUS),
         Err(_) => told(rt, &ViewFault::OutOfMemory),
@@ -66,10 +69,20 @@ pub fn ids_in(rt: &HostRuntime, folder: &str) -> Result<Vec<u32>, ViewFault> {
 
 /// Lists the log and the copies of these ids. Answers whether all of them are right and all lines
 /// went out; what is wrong is told.
-fn listed(rt: &HostRuntime, folder: &str, form: Form, ids: &[u32]) -> Result<bool, AllocError> {
+fn listed(
+    rt: &HostRuntime,
+    folder: &str,
+    form: Form,
+    manifest: ManifestUse<'_>,
+    ids: &[u32],
+) -> Result<bool, AllocError> {
     let name = format!(in rt.alloc(); "{folder}/log")?;
     let input = Notes::new();
-    let found = facts_in(rt, name.as_str(), &input);
+    let bytes = log_bytes(rt, name.as_str(), &input);
+    let found = match &bytes {
+        Ok(bytes) => facts_of(rt.alloc(), bytes),
+        Err(fault) => Err(*fault),
+    };
     let end = found.as_ref().ok().map(|log| log.end());
     let mut rows = Rows::new(rt.alloc(), end);
     let mut is_right = true;
@@ -86,7 +99,9 @@ fn listed(rt: &HostRuntime, folder: &str, form: Form, ids: &[u32]) -> Result<boo
     }
     is_right = tell_flaws(rt, folder, &rows, end) && is_right;
     is_right = written(rt, text.as_str()) && is_right;
-    Ok(is_log_right(rt, name.as_str(), &found, &input) && is_right)
+    is_right = is_log_right(rt, name.as_str(), &found, &input) && is_right;
+    let log = bytes.as_ref().ok().map(|bytes| bytes.as_slice());
+    Ok(are_named(rt, folder, manifest, &rows, log)? && is_right)
 }
 
 /// Tells what is wrong with copies, and says whether nothing is.
@@ -231,11 +246,10 @@ fn is_irregular(rt: &HostRuntime, name: &str) -> bool {
     }
 }
 
-/// What a log comes to. What is no regular file is not opened.
-fn facts_in(rt: &HostRuntime, name: &str, notes: &Notes) -> Result<LogFacts, ViewFault> {
+/// The bytes of a log. What is no regular file is not opened.
+fn log_bytes(rt: &HostRuntime, name: &str, notes: &Notes) -> Result<Vec<u8>, ViewFault> {
     if is_irregular(rt, name) {
         return Err(ViewFault::ReadFault);
     }
-    let bytes = bytes_of(rt, name, notes)?;
-    facts_of(rt.alloc(), &bytes)
+    bytes_of(rt, name, notes)
 }

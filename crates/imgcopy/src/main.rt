@@ -15,6 +15,7 @@ mod folder_commands;
 mod headers;
 mod leftovers;
 mod list;
+mod listed_sums;
 mod manifest_output;
 mod manifests;
 mod output;
@@ -32,6 +33,7 @@ mod view;
 use advice::{tell_script, tell_unread, tell_unwritten};
 use aries_core::Setup;
 use audits::audit;
+use checked_files::ManifestUse;
 use command_words::{Command, command_of, words_of};
 use event_script::MAX_SCRIPT_BYTES;
 use file_view::{Form, Wanted};
@@ -68,6 +70,12 @@ error: --force needs the argument:
   --output <FILE>
 
 Usage: imgcopy redo [OPTIONS] < LOG
+
+For more information, try '--help'.";
+
+/// What is told where a manifest is named, and none is to count.
+const BOTH_MANIFESTS: &str = "\
+error: the argument '--manifest <FILE>' cannot be used with '--no-manifest'
 
 For more information, try '--help'.";
 
@@ -136,13 +144,19 @@ fn main(rt: HostRuntime) -> ExitCode {
                 log_output,
                 force,
                 until,
+                manifest,
+                no_manifest,
             },
         ) => {
+            let Some(manifest) = ManifestUse::of(manifest, no_manifest) else {
+                return told(&rt, &BOTH_MANIFESTS);
+            };
             let names = Named {
                 log,
                 master: Some(master),
                 archives: &archives,
                 until: lsn_of(until),
+                manifest,
             };
             let outputs = Outputs {
                 volume: output,
@@ -158,13 +172,19 @@ fn main(rt: HostRuntime) -> ExitCode {
                 master,
                 all,
                 until,
+                manifest,
+                no_manifest,
             },
         ) => {
+            let Some(manifest) = ManifestUse::of(manifest, no_manifest) else {
+                return told(&rt, &BOTH_MANIFESTS);
+            };
             let names = Named {
                 log,
                 master,
                 archives: &archives,
                 until: lsn_of(until),
+                manifest,
             };
             audit(&rt, &names, all)
         }
@@ -188,7 +208,17 @@ fn main(rt: HostRuntime) -> ExitCode {
             };
             show(&rt, file, &wanted, form_of(json))
         }
-        Ok(Command::ListFolder { folder, json }) => list(&rt, folder, form_of(json)),
+        Ok(
+            Command::ListFolder {
+                folder,
+                json,
+                manifest,
+                no_manifest,
+            },
+        ) => match ManifestUse::of(manifest, no_manifest) {
+            Some(manifest) => list(&rt, folder, form_of(json), manifest),
+            None => told(&rt, &BOTH_MANIFESTS),
+        },
         Ok(
             Command::Backup {
                 folder,
@@ -205,7 +235,16 @@ fn main(rt: HostRuntime) -> ExitCode {
             };
             backup(&rt, &call)
         }
-        Ok(Command::Verify { folder }) => verify(&rt, folder),
+        Ok(
+            Command::Verify {
+                folder,
+                manifest,
+                no_manifest,
+            },
+        ) => match ManifestUse::of(manifest, no_manifest) {
+            Some(manifest) => verify(&rt, &rt, folder, manifest),
+            None => told(&rt, &BOTH_MANIFESTS),
+        },
         Ok(Command::Renew { old, new }) => renew(&rt, old, new),
         Ok(Command::Version) => answered(&rt, &Version, 0),
         Err(fault) => told_whole(&rt, &EscapedText(&fault)),

@@ -1,21 +1,35 @@
-//! What manifests say of the files that a command reads: one stands beside them, as `manifest`.
+//! What manifests say of the files that a command reads. One stands beside them, as `manifest`, or
+//! is told.
 
 use crate::advice::{tell_audited, tell_input};
 use crate::output::parts_of;
 use crate::reasons::{FIRST_ARCHIVE, Named, what_stands};
 use crate::view::bytes_of;
-use checked_files::{CheckNotes, Expected};
+use checked_files::{CheckNotes, Expected, Known, ManifestUse, ReadFile, known_file};
 use copy_audit::Unsound;
 use file_view::ViewFault;
-use manifest::{Extent, FileSum, Manifest, ManifestFault, decode};
+use manifest::{Manifest, ManifestFault, decode};
 use media_restore::RestoreFault;
 use std::alloc::AllocError;
+use std::fmt::Display;
 use std::fs;
 use std::io::ErrorKind;
 use system_files::{Escaped, Notes};
 
 /// The name that a manifest has.
 pub const MANIFEST: &str = "manifest";
+
+/// The name that a log has beside a manifest.
+const LOG: &str = "log";
+
+/// What is told of a file that a manifest names and that is another one.
+const OTHER: &str = "is not the file that the manifest names";
+
+/// What to do then.
+const WAY_ON: &str = "put that file there, or go on by --no-manifest";
+
+/// What to do where a manifest is none.
+const MANIFEST_WAY_ON: &str = "put the files' manifest there, or go on by --no-manifest";
 
 /// A folder, and the manifest that stands there, if one does.
 #[derive(Drop)]
@@ -29,17 +43,31 @@ struct Beside<'a> {
 pub struct Checks<'a> {
     pub expected: Vec<Expected<'a>>,
     pub notes: CheckNotes,
+    /// The files that the manifest does not name which counts for them.
+    unnamed: Vec<&'a str>,
+    choice: ManifestUse<'a>,
+    /// A manifest counts where one stands, and none does.
+    is_bare: bool,
 }
 
 impl<'a> Checks<'a> {
     /// What manifests say of these files. None where a manifest is refused, which is told.
     pub fn of(rt: &HostRuntime, names: &Named<'a>) -> Option<Checks<'a>> {
-        match expected_of(rt, names) {
-            Ok(Some(expected)) => Some(Checks {
-                expected,
-                notes: CheckNotes::new(),
-            }),
-            Ok(None) => None,
+        let mut checks = Checks {
+            expected: Vec::new(rt.alloc()),
+            notes: CheckNotes::new(),
+            unnamed: Vec::new(rt.alloc()),
+            choice: names.manifest,
+            is_bare: false,
+        };
+        let done = match names.manifest {
+            ManifestUse::Beside => checks.look_beside(rt, names),
+            ManifestUse::Told(place) => checks.look_at(rt, names, place),
+            ManifestUse::Aside => Ok(true),
+        };
+        match done {
+            Ok(true) => Some(checks),
+            Ok(false) => None,
             Err(_) => {
                 let _ = rt.eprintln(&ViewFault::OutOfMemory);
                 None
@@ -56,7 +84,7 @@ impl<'a> Checks<'a> {
         notes: &Notes,
     ) {
         match (fault, self.notes.refused()) {
-            (RestoreFault::ReadFault, Some(count)) => tell_other(rt, names, notes, count),
+            (RestoreFault::ReadFault, Some(count)) => self.tell_other(rt, names, notes, count),
             _ => tell_input(rt, names, fault, notes),
         }
     }
@@ -70,140 +98,245 @@ impl<'a> Checks<'a> {
         notes: &Notes,
     ) {
         match (fault, self.notes.refused()) {
-            (Unsound::ReadFault, Some(count)) => tell_other(rt, names, notes, count),
+            (Unsound::ReadFault, Some(count)) => self.tell_other(rt, names, notes, count),
             _ => tell_audited(rt, names, fault, notes),
         }
     }
-}
 
-/// Tells that the file that was read last is not the one that the manifest names.
-fn tell_other(rt: &impl Eprint, names: &Named<'_>, notes: &Notes, count: u64) {
-    let Some(place) = notes.read_last() else {
-        return;
-    };
-    let Some(name) = names.at(place) else {
-        return;
-    };
-    let (name, what) = (Escaped(name), what_stands(place));
-    let _ = eprintln!(rt;
-        "imgcopy: {name} ({what}): is not the file that the manifest names, by {count} bytes of it"
-    );
-}
-
-fn expected_of<'a>(
-    rt: &HostRuntime,
-    names: &Named<'a>,
-) -> Result<Option<Vec<Expected<'a>>>, AllocError> {
-    let mut found = Vec::new(rt.alloc());
-    let mut expected = Vec::new(rt.alloc());
-    for place in 0..names.count() {
-        // Of a log that counts up to a record not all is read, and no master record.
-        if names.until.is_some() && place < FIRST_ARCHIVE {
-            continue;
-        }
-        let Some(name) = names.at(place) else {
-            continue;
-        };
-        let Some((folder, base)) = parts_of(name) else {
-            continue;
-        };
-        if !is_found(&found, folder) {
-            let Some(beside) = read_beside(rt, folder)? else {
-                return Ok(None);
-            };
-            found.push(beside)?;
-        }
-        if let Some(file) = known_in(rt, &found, folder, base, name)? {
-            expected.push(Expected { name, file })?;
+    /// Tells which files the manifest does not name that counts for them.
+    pub fn tell_unnamed(&self, rt: &impl Eprint) {
+        for name in self.unnamed.as_slice() {
+            match self.choice {
+                ManifestUse::Told(place) => tell_unnamed(rt, name, &Escaped(place)),
+                _ => tell_unnamed(rt, name, &"the manifest beside it"),
+            }
         }
     }
-    Ok(Some(expected))
+
+    /// Tells that no manifest stands beside the files, where one would count.
+    pub fn tell_bare(&self, rt: &impl Eprint) {
+        if self.is_bare {
+            let _ = eprintln!(rt;
+                "imgcopy: no manifest stands beside the files: they are not compared"
+            );
+        }
+    }
+
+    /// Tells that the file that was read last is not the one that the manifest names.
+    fn tell_other(&self, rt: &impl Eprint, names: &Named<'_>, notes: &Notes, count: u64) {
+        let Some(place) = notes.read_last() else {
+            return;
+        };
+        let Some(name) = names.at(place) else {
+            return;
+        };
+        let what = OtherFile {
+            place: name,
+            what: what_stands(place),
+            named: self.named(name),
+            count,
+        };
+        what.tell(rt);
+    }
+
+    /// How many bytes are named of the file of this name.
+    fn named(&self, name: &str) -> Option<u64> {
+        for it in self.expected.as_slice() {
+            if it.name == name {
+                return Some(it.file.bytes);
+            }
+        }
+        None
+    }
+
+    /// Takes up what the manifests say that stand beside the files. Whether none is refused.
+    fn look_beside(&mut self, rt: &HostRuntime, names: &Named<'a>) -> Result<bool, AllocError> {
+        let mut found = Vec::new(rt.alloc());
+        for place in 0..names.count() {
+            let Some(name) = names.at(place) else {
+                continue;
+            };
+            let Some((folder, base)) = parts_of(name) else {
+                continue;
+            };
+            if !is_found(&found, folder) {
+                let Some(beside) = read_beside(rt, folder)? else {
+                    return Ok(false);
+                };
+                found.push(beside)?;
+            }
+            let file = ReadFile {
+                name: base,
+                in_part: is_in_part(names, place),
+                log: log_beside(rt, folder)?,
+            };
+            let known = known_file(ManifestUse::Beside, manifest_among(&found, folder), &file);
+            self.take(name, &known)?;
+        }
+        self.is_bare = found.iter().all(|it| it.manifest.is_none());
+        Ok(true)
+    }
+
+    /// Takes up what this manifest says of the files, wherever they stand. Whether it is not refused.
+    fn look_at(
+        &mut self,
+        rt: &HostRuntime,
+        names: &Named<'a>,
+        told: &str,
+    ) -> Result<bool, AllocError> {
+        let Some(manifest) = read_manifest(rt, told) else {
+            return Ok(false);
+        };
+        let log = length_at(rt, names.log);
+        for place in 0..names.count() {
+            let Some(name) = names.at(place) else {
+                continue;
+            };
+            let Some((_, base)) = parts_of(name) else {
+                continue;
+            };
+            let file = ReadFile {
+                name: base,
+                in_part: is_in_part(names, place),
+                log,
+            };
+            let known = known_file(ManifestUse::Told(told), Some(&manifest), &file);
+            self.take(name, &known)?;
+        }
+        Ok(true)
+    }
+
+    /// Takes up what is known of a file.
+    fn take(&mut self, name: &'a str, known: &Known) -> Result<(), AllocError> {
+        match known {
+            Known::Nothing => Ok(()),
+            Known::Unnamed => Ok(self.unnamed.push(name)?),
+            Known::Named(file) => Ok(self.expected.push(Expected { name, file: *file })?),
+        }
+    }
+}
+
+/// Tells that a manifest does not name a file.
+pub fn tell_unnamed(rt: &impl Eprint, name: &str, manifest: &impl Display) {
+    let name = Escaped(name);
+    let _ = eprintln!(rt; "imgcopy: {name}: {manifest} does not name it");
+}
+
+/// A file that is not the one that a manifest names.
+#[derive(Clone, Copy)]
+pub struct OtherFile<'a> {
+    pub place: &'a str,
+    /// As what it is read.
+    pub what: &'a str,
+    /// How many bytes are named, where that is known.
+    pub named: Option<u64>,
+    /// How many bytes it has; of a log, no more than are named.
+    pub count: u64,
+}
+
+impl OtherFile<'_> {
+    /// Says so, and what to do.
+    pub fn tell(&self, rt: &impl Eprint) {
+        let (place, what, count) = (Escaped(self.place), self.what, self.count);
+        let _ = match self.named {
+            Some(named) if named != count => eprintln!(rt;
+                "imgcopy: {place} ({what}): {OTHER}: it has {count} bytes, and {named} are named: {WAY_ON}"
+            ),
+            _ => eprintln!(rt;
+                "imgcopy: {place} ({what}): {OTHER}, by {count} bytes of it: {WAY_ON}"
+            ),
+        };
+    }
+}
+
+/// Of a log that counts up to a record not all is read, and no master record.
+fn is_in_part(names: &Named<'_>, place: usize) -> bool {
+    names.until.is_some() && place < FIRST_ARCHIVE
 }
 
 fn is_found(found: &[Beside<'_>], folder: &str) -> bool {
     found.iter().any(|it| it.folder == folder)
 }
 
-/// What the manifest of a folder says of a file. Where it says nothing, that is told.
-fn known_in(
-    rt: &HostRuntime,
-    found: &[Beside<'_>],
-    folder: &str,
-    base: &str,
-    name: &str,
-) -> Result<Option<FileSum>, AllocError> {
+fn manifest_among<'b>(found: &'b [Beside<'_>], folder: &str) -> Option<&'b Manifest> {
     for it in found {
         if it.folder == folder {
-            let Some(manifest) = &it.manifest else {
-                return Ok(None);
-            };
-            let Some(file) = manifest.entry(base) else {
-                let name = Escaped(name);
-                let _ = eprintln!(rt; "imgcopy: {name}: the manifest beside it does not name it");
-                return Ok(None);
-            };
-            if base == "master" && has_grown(rt, manifest, folder)? {
-                return Ok(None);
-            }
-            return Ok(Some(file));
+            return it.manifest.as_ref();
         }
     }
-    Ok(None)
+    None
 }
 
-/// Whether the log of a folder has grown since its manifest was written. Then it may have got
-/// another master record since.
-fn has_grown(rt: &HostRuntime, manifest: &Manifest, folder: &str) -> Result<bool, AllocError> {
-    let Some(log) = manifest.entry("log") else {
-        return Ok(false);
-    };
-    let place = format!(in rt.alloc(); "{folder}/log")?;
-    match fs::metadata(rt, place.as_str()) {
-        Ok(there) => Ok(log.extent == Extent::First && there.len() > log.bytes),
-        Err(_) => Ok(false),
+/// How many bytes the log of a folder has.
+fn log_beside(rt: &HostRuntime, folder: &str) -> Result<Option<u64>, AllocError> {
+    let place = format!(in rt.alloc(); "{folder}/{LOG}")?;
+    Ok(length_at(rt, place.as_str()))
+}
+
+/// How many bytes a regular file has.
+fn length_at(rt: &HostRuntime, place: &str) -> Option<u64> {
+    match fs::metadata(rt, place) {
+        Ok(there) if there.is_file() => Some(there.len()),
+        _ => None,
     }
 }
 
-/// The manifest of a folder, if one stands there. None where it is refused, which is told.
-pub fn manifest_in(rt: &HostRuntime, folder: &str) -> Result<Option<Option<Manifest>>, AllocError> {
-    match read_beside(rt, folder)? {
-        Some(beside) => Ok(Some(beside.manifest)),
-        None => Ok(None),
+/// The manifest that counts for the files of a folder, if one does. None where it is refused, which
+/// is told.
+pub fn manifest_for(
+    rt: &HostRuntime,
+    folder: &str,
+    choice: ManifestUse<'_>,
+) -> Result<Option<Option<Manifest>>, AllocError> {
+    match choice {
+        ManifestUse::Aside => Ok(Some(None)),
+        ManifestUse::Told(place) => match read_manifest(rt, place) {
+            Some(manifest) => Ok(Some(Some(manifest))),
+            None => Ok(None),
+        },
+        ManifestUse::Beside => match read_beside(rt, folder)? {
+            Some(beside) => Ok(Some(beside.manifest)),
+            None => Ok(None),
+        },
     }
 }
 
 /// The manifest that stands in a folder. None where it is refused, which is told.
 fn read_beside<'a>(rt: &HostRuntime, folder: &'a str) -> Result<Option<Beside<'a>>, AllocError> {
     let place = format!(in rt.alloc(); "{folder}/{MANIFEST}")?;
-    match fs::metadata(rt, place.as_str()) {
-        Ok(there) if there.is_file() => {}
-        Err(error) if error.kind() != ErrorKind::NotFound => {}
-        _ => {
-            return Ok(Some(Beside {
-                folder,
-                manifest: None,
-            }));
-        }
-    }
+    let stands = match fs::metadata(rt, place.as_str()) {
+        Ok(there) => there.is_file(),
+        Err(error) => error.kind() != ErrorKind::NotFound,
+    };
+    let manifest = if stands {
+        let Some(manifest) = read_manifest(rt, place.as_str()) else {
+            return Ok(None);
+        };
+        Some(manifest)
+    } else {
+        None
+    };
+    Ok(Some(Beside { folder, manifest }))
+}
+
+/// The manifest in a file. None where it is refused, which is told.
+fn read_manifest(rt: &HostRuntime, place: &str) -> Option<Manifest> {
     let notes = Notes::new();
-    match bytes_of(rt, place.as_str(), &notes) {
+    match bytes_of(rt, place, &notes) {
         Ok(bytes) => match decode(rt.alloc(), &bytes) {
-            Ok(manifest) => Ok(Some(Beside {
-                folder,
-                manifest: Some(manifest),
-            })),
+            Ok(manifest) => Some(manifest),
             Err(fault) => {
-                tell_refused(rt, place.as_str(), &fault);
-                Ok(None)
+                tell_refused(rt, place, &fault);
+                None
             }
         },
         Err(fault) => {
             let _ = rt.eprintln(&fault);
             if let Some(error) = notes.error() {
-                let place = Escaped(place.as_str());
+                let place = Escaped(place);
                 let _ = eprintln!(rt; "imgcopy: {place}: {error}");
             }
-            Ok(None)
+            None
         }
     }
 }
@@ -214,7 +347,7 @@ fn tell_refused(rt: &impl Eprint, place: &str, fault: &ManifestFault) {
         ManifestFault::OutOfMemory => rt.eprintln(&ViewFault::OutOfMemory),
         fault => {
             let _ = rt.eprintln(&ViewFault::ReadFault);
-            eprintln!(rt; "imgcopy: {place}: {fault}: restore without it once it is moved away")
+            eprintln!(rt; "imgcopy: {place}: {fault}: {MANIFEST_WAY_ON}")
         }
     };
 }

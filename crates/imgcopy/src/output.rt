@@ -2,6 +2,7 @@
 //! lines that tell why one was not written.
 
 use crate::reasons::{Named, STANDARD_INPUT};
+use checked_files::ManifestUse;
 use page_core::FaultName;
 use std::fmt::Display;
 use std::fs;
@@ -91,6 +92,7 @@ fn is_input(rt: &HostRuntime, path: &str, inputs: &Inputs<'_>) -> bool {
             is_it(names.log)
                 || names.master.is_some_and(|name| is_it(name))
                 || names.archives.iter().any(|name| is_it(name))
+                || matches!(names.manifest, ManifestUse::Told(name) if is_it(name))
         }
     }
 }

@@ -2,6 +2,7 @@
 
 use crate::chain_reason::ChainReason;
 use crate::headers::{FileKind, kind_of, last_kind};
+use checked_files::ManifestUse;
 use copy_audit::Unsound;
 use copy_vault::{ArchiveFault, CopyId};
 use file_view::{CopyHeader, ViewFault, read_copy_header};
@@ -21,13 +22,15 @@ pub(crate) const FIRST_ARCHIVE: usize = 2;
 /// The name that the system has for standard input.
 pub const STANDARD_INPUT: &str = "/dev/stdin";
 
-/// The files of a restore or an audit, and up to which record the log counts, if that is told.
+/// The files of a restore or an audit, up to which record the log counts, if that is told, and which
+/// manifest counts.
 #[derive(Drop)]
 pub struct Named<'a> {
     pub log: &'a str,
     pub master: Option<&'a str>,
     pub archives: &'a [&'a str],
     pub until: Option<Lsn>,
+    pub manifest: ManifestUse<'a>,
 }
 
 impl<'a> Named<'a> {

@@ -33,7 +33,8 @@ pub struct Outputs<'a> {
 }
 
 /// Restores a volume from files, and its log if a file for that is named. The log counts up to the
-/// record at an LSN, if one is told. A file that a manifest names has to be that file.
+/// record at an LSN, if one is told. A file that a manifest names has to be that file; that there is
+/// no manifest is told.
 pub fn restore(
     rt: &HostRuntime,
     threads: &(impl Threads + Sync),
@@ -45,28 +46,28 @@ pub fn restore(
     let Some(checks) = Checks::of(rt, names) else {
         return ExitCode::from(FAULT_STATUS);
     };
-    if let Some(until) = names.until {
-        return restore_until(
-            rt,
-            threads,
-            (names, &notes, &checks),
-            master,
-            outputs,
-            until,
-        );
+    let status = restore_checked(rt, threads, (names, &notes, &checks), master, outputs);
+    if status == ExitCode::SUCCESS {
+        checks.tell_unnamed(rt);
+        checks.tell_bare(rt);
     }
-    let files = SystemFiles {
-        files: rt,
-        notes: &notes,
-    };
-    restore_from(
-        rt,
-        threads,
-        &files,
-        (names, &notes, &checks),
-        master,
-        outputs,
-    )
+    status
+}
+
+/// The same, from files of which it is known what manifests say.
+fn restore_checked(
+    rt: &HostRuntime,
+    threads: &(impl Threads + Sync),
+    read: (&Named<'_>, &Notes, &Checks<'_>),
+    master: &str,
+    outputs: Outputs<'_>,
+) -> ExitCode {
+    let (names, notes, _) = read;
+    if let Some(until) = names.until {
+        return restore_until(rt, threads, read, master, outputs, until);
+    }
+    let files = SystemFiles { files: rt, notes };
+    restore_from(rt, threads, &files, read, master, outputs)
 }
 
 /// The same, from files that are read by their names, of which the notes know why one was not read.

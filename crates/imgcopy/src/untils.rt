@@ -40,6 +40,7 @@ pub fn restore_until(
         master: None,
         archives: &[],
         until: names.until,
+        manifest: names.manifest,
     };
     let once = match ReadOnce::of(rt, &log, notes) {
         Ok(once) => once,
@@ -81,6 +82,7 @@ pub fn audit_until(
         master: None,
         archives: names.archives,
         until: names.until,
+        manifest: names.manifest,
     };
     let once = match ReadOnce::of(rt, names, notes) {
         Ok(once) => once,

@@ -1,28 +1,46 @@
 //! The command `verify`.
 
 use crate::list::{header_of, ids_in, written};
-use crate::manifests::manifest_in;
+use crate::manifests::manifest_for;
+use checked_files::ManifestUse;
 use copy_audit::{Sound, Unsound};
 use file_view::{CopyHeader, ViewFault};
-use manifest::{Entry, Extent, FileSum, sum_rest};
+use manifest::{Extent, FileSum, Manifest, sum_rest};
 use page_core::zeros;
 use saved_files::{audit_files, check_master};
 use script_run::FAULT_STATUS;
 use std::alloc::{AllocError, Global};
 use std::io::Read;
 use std::process::ExitCode;
-use std::{fs, io};
+use std::thread::Threads;
+use std::{fs, io, thread};
 use system_files::{Escaped, Notes, SystemFiles};
 
 /// How many bytes of a file are summed at once.
 const PIECE_BYTES: usize = 65_536;
 
-/// Sums each file that the manifest of a folder names, and audits each copy there, with those that it
-/// stands on, against the log, and the master record too. A line for each goes to standard output,
-/// and nothing is changed. The status is 0 where all are sound.
-pub fn verify(rt: &HostRuntime, folder: &str) -> ExitCode {
+/// How many files are summed side by side at most.
+const MOST_THREADS: usize = 16;
+
+/// A file that a manifest names, and whether it is that one, once it was summed.
+#[derive(Drop)]
+struct SummedFile {
+    place: String,
+    file: FileSum,
+    done: io::Result<bool>,
+}
+
+/// Sums each file that the manifest of a folder names, side by side, and audits each copy there, with
+/// those that it stands on, against the log, and the master record too. A line for each goes to
+/// standard output, and nothing is changed. The status is 0 where all are sound.
+pub fn verify(
+    rt: &HostRuntime,
+    threads: &(impl Threads + Sync),
+    folder: &str,
+    manifest: ManifestUse<'_>,
+) -> ExitCode {
     let mut text = String::new(rt.alloc());
-    let is_sound = match verified(rt, folder, &mut text) {
+    let is_sound = match verified(rt, threads, folder, manifest, &mut text) {
         Ok(is_sound) => is_sound,
         Err(_) => {
             let _ = rt.eprintln(&ViewFault::OutOfMemory);
@@ -36,7 +54,13 @@ pub fn verify(rt: &HostRuntime, folder: &str) -> ExitCode {
     }
 }
 
-fn verified(rt: &HostRuntime, folder: &str, text: &mut String) -> Result<bool, AllocError> {
+fn verified(
+    rt: &HostRuntime,
+    threads: &(impl Threads + Sync),
+    folder: &str,
+    manifest: ManifestUse<'_>,
+    text: &mut String,
+) -> Result<bool, AllocError> {
     let ids = match ids_in(rt, folder) {
         Ok(ids) => ids,
         Err(fault) => {
@@ -44,24 +68,34 @@ fn verified(rt: &HostRuntime, folder: &str, text: &mut String) -> Result<bool, A
             return Ok(false);
         }
     };
-    let are_named = files_are_named(rt, folder, text)?;
+    let are_named = files_are_named(rt, threads, folder, manifest, text)?;
     let are_sound = copies_are_sound(rt, folder, ids.as_slice(), text)?;
     Ok(are_named && are_sound)
 }
 
-/// Sums the files that the manifest names. Where there is none, that is told.
-fn files_are_named(rt: &HostRuntime, folder: &str, text: &mut String) -> Result<bool, AllocError> {
-    let Some(found) = manifest_in(rt, folder)? else {
+/// Sums the files that the manifest names. Where there is none, though one would count, that is told.
+fn files_are_named(
+    rt: &HostRuntime,
+    threads: &(impl Threads + Sync),
+    folder: &str,
+    choice: ManifestUse<'_>,
+    text: &mut String,
+) -> Result<bool, AllocError> {
+    let Some(found) = manifest_for(rt, folder, choice)? else {
         return Ok(false);
     };
     let Some(manifest) = found else {
-        let folder = Escaped(folder);
-        let _ = eprintln!(rt; "imgcopy: {folder}: there is no manifest");
+        if !matches!(choice, ManifestUse::Aside) {
+            let folder = Escaped(folder);
+            let _ = eprintln!(rt; "imgcopy: {folder}: there is no manifest");
+        }
         return Ok(true);
     };
+    let mut files = files_of(rt, folder, &manifest)?;
+    sum_all(rt, threads, &mut files);
     let mut are_named = true;
-    for entry in manifest.entries() {
-        let is_named = is_named(rt, folder, entry)?;
+    for (entry, it) in manifest.entries().iter().zip(files.iter()) {
+        let is_named = is_named(rt, it);
         let name = entry.name();
         let line = if is_named {
             format!(in rt.alloc(); "{name} sound\n")?
@@ -74,16 +108,50 @@ fn files_are_named(rt: &HostRuntime, folder: &str, text: &mut String) -> Result<
     Ok(are_named)
 }
 
+/// The files of a folder that a manifest names, of which none is summed yet.
+fn files_of(
+    rt: &HostRuntime,
+    folder: &str,
+    manifest: &Manifest,
+) -> Result<Vec<SummedFile>, AllocError> {
+    let mut files = Vec::new(rt.alloc());
+    for entry in manifest.entries() {
+        let name = entry.name();
+        let place = format!(in rt.alloc(); "{folder}/{name}")?;
+        files.push(SummedFile {
+            place,
+            file: entry.file(),
+            done: Ok(false),
+        })?;
+    }
+    Ok(files)
+}
+
+/// Sums these files side by side.
+fn sum_all(rt: &HostRuntime, threads: &(impl Threads + Sync), files: &mut [SummedFile]) {
+    thread::for_each_mut(
+        threads,
+        files,
+        MOST_THREADS,
+        &|_, it: &mut SummedFile| it.sum(rt),
+    );
+}
+
+impl SummedFile {
+    /// Sums the file.
+    fn sum(&mut self, rt: &HostRuntime) {
+        self.done = agrees(rt, self.place.as_str(), self.file);
+    }
+}
+
 /// Whether a file is the one that the manifest names. Why it could not be read is told.
-fn is_named(rt: &HostRuntime, folder: &str, entry: &Entry) -> Result<bool, AllocError> {
-    let name = entry.name();
-    let place = format!(in rt.alloc(); "{folder}/{name}")?;
-    match agrees(rt, place.as_str(), entry.file()) {
-        Ok(is_same) => Ok(is_same),
+fn is_named(rt: &impl Eprint, it: &SummedFile) -> bool {
+    match &it.done {
+        Ok(is_same) => *is_same,
         Err(error) => {
-            let place = Escaped(place.as_str());
+            let place = Escaped(it.place.as_str());
             let _ = eprintln!(rt; "imgcopy: {place}: {error}");
-            Ok(false)
+            false
         }
     }
 }
