@@ -160,6 +160,7 @@ def check_many_pages(program):
     folder = program.folder / "many"
     folder.mkdir()
     program.check(program.run("run", "--strict", "--pages", pages, "--save", "many", data=text), "many pages", 0)
+    (program.folder / "many" / "manifest").unlink()
     copy = bytearray((folder / "copy-1").read_bytes())
     for page in range(pages):
         copy[HEADER + PAGE * page + 16] ^= 1
