@@ -15,7 +15,7 @@ use Rattle.clap.proofs.OnLiterals.{clap_on_literals}
 use Rattle.command_words.specs.Arguments.{PassesFrames}
 use Rattle.command_words.specs.Command.{ExplainsRead, IsFramesRead, IsNumberRead, Names, apps, audit_app}
 use Rattle.command_words.specs.Command.{backup_app, list_app, open_app, redo_into_app, renew_app, restore_app, run_app}
-use Rattle.command_words.specs.Command.{show_app, verify_app}
+use Rattle.command_words.specs.Command.{restore_folder_app, show_app, verify_app}
 use Rattle.command_words.specs.declared.command.UsageFault.{UsageFault}
 use Rattle.command_words.specs.declared.command.UsageFault.TheVariants.{BadArguments, OutOfMemory}
 
@@ -119,6 +119,10 @@ help_of_open = refl
 pub help_of_restore : fault_of restore_app (codes "restore" ∷ codes "--help" ∷ []) ≡ kind.DisplayHelp ∷ []
 unfolding clap_on_literals
 help_of_restore = refl
+
+pub help_of_restore_folder : fault_of restore_folder_app (codes "restore" ∷ codes "--help" ∷ []) ≡ kind.DisplayHelp ∷ []
+unfolding clap_on_literals
+help_of_restore_folder = refl
 
 pub help_of_audit : fault_of audit_app (codes "audit" ∷ codes "--help" ∷ []) ≡ kind.DisplayHelp ∷ []
 unfolding clap_on_literals

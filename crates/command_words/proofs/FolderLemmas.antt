@@ -42,7 +42,8 @@ backed_folder_given cmd m it p =
     made.no_arguments made.no_groups made.no_globals made.keeps made.fit (asked_apart cmd it) (lit< tt) it.required p)
 
 -- the number of a copy, if it was given
-pub copy_passed : (cmd : Parser) (m : ArgMatches) → AsksForBackup cmd → IsParsedFrom cmd m → PassesCopy (found_of m)
+pub copy_passed : (cmd : Parser) (m : ArgMatches) → AsksForBackup cmd → IsParsedFrom cmd m
+    → PassesCopy (found_of m) (codes "on")
 copy_passed cmd m it p =
     let made = it.made in
     subst (λ id. (one_text (found_of m) id ≡ None) ⊎ PassesIn 1 4294967295 (found_of m) id) (ap (λ r. r.id) it.on_is)
@@ -50,14 +51,14 @@ copy_passed cmd m it p =
     made.no_globals made.fit (asked_apart cmd it) (lit< tt) it.on_parsed p)
 
 -- the number as it was read, or none where it was not given
-pub copy_read : (E : Type 0) (G : Text → Result ℕ E → Type 0) (found : Found) (r : Option ℕ)
-    → PassesCopy found → (one_text found (codes "on") ≡ None → r ≡ None)
-    → ((t : Text) → one_text found (codes "on") ≡ Some t → ReadsOne G t r)
+pub copy_read : (E : Type 0) (G : Text → Result ℕ E → Type 0) (found : Found) (name : Text) (r : Option ℕ)
+    → PassesCopy found name → (one_text found name ≡ None → r ≡ None)
+    → ((t : Text) → one_text found name ≡ Some t → ReadsOne G t r)
     → ((u : Text) (x : Result ℕ E) → G u x → ParsesUnsigned 32 10 u x)
-    → IsTold (one_text found (codes "on")) r
-copy_read E G found r (inl absent) none value parses = number_read E G found (codes "on") r (inl absent) none value parses
-copy_read E G found r (inr passes) none value parses =
-    number_read E G found (codes "on") r (inr (1, 4294967295, lit< tt, passes)) none value parses
+    → IsTold (one_text found name) r
+copy_read E G found name r (inl absent) none value parses = number_read E G found name r (inl absent) none value parses
+copy_read E G found name r (inr passes) none value parses =
+    number_read E G found name r (inr (1, 4294967295, lit< tt, passes)) none value parses
 
 -- ---- `verify`
 

@@ -2,6 +2,7 @@ mod AuditLemmas
 mod ChainLemmas
 mod ClapLemmas
 mod FolderLemmas
+mod FolderRestoreLemmas
 mod NameLemmas
 mod NearestLemmas
 mod OpenLemmas

@@ -10,12 +10,13 @@ use Rattle.std.proofs.lemmas.Option.{none-some, same_Some}
 use Rattle.clap.specs.Words.{App, Text, fault_of}
 use Rattle.command_words.specs.Command.{AsksForHelp, AsksForVersion, Explains, ExplainsRead, ExplainsUnknown, Gives}
 use Rattle.command_words.specs.Command.{IsRedo, IsTaken, IsTakenBy, IsUnknown, Names, apps, audit_app, backup_app, list_app}
-use Rattle.command_words.specs.Command.{open_app, read_as, redo_app, redo_into_app, renew_app, restore_app, run_app, show_app}
-use Rattle.command_words.specs.Command.{verify_app}
+use Rattle.command_words.specs.Command.{open_app, read_as, redo_app, redo_into_app, renew_app, restore_app}
+use Rattle.command_words.specs.Command.{restore_folder_app, run_app, show_app, verify_app}
 use Rattle.clap.specs.declared.error.kind.ErrorKind.TheVariants.{DisplayHelp}
 use Rattle.command_words.specs.declared.command.Command.{Command}
 use Rattle.command_words.specs.declared.command.Command.TheVariants.{Audit, Backup, ListFolder, Open, Redo, RedoInto, Renew}
-use Rattle.command_words.specs.declared.command.Command.TheVariants.{Restore, Run, Show, Verify, Version}
+use Rattle.command_words.specs.declared.command.Command.TheVariants.{Restore, RestoreFolder, Run, Show, Verify}
+use Rattle.command_words.specs.declared.command.Command.TheVariants.{Version}
 use Rattle.command_words.specs.declared.command.UsageFault.{UsageFault}
 use Rattle.command_words.specs.declared.command.UsageFault.TheVariants.{BadArguments, HelpAsked, MisspelledCommand}
 use Rattle.command_words.specs.declared.command.UsageFault.TheVariants.{NoCommand, OutOfMemory, UnknownCommand}
@@ -74,6 +75,15 @@ taken_by words app alone named taken = elim (taken_by_name words app.top.name (a
   | inr none ↦ absurd none
 ]
 
+-- a command of a name that one more has takes the words, or the other one does
+pub taken_by_two : (words : List Text) (app other : App) → of_name app.top.name apps ≡ app ∷ other ∷ []
+    → Names words app → IsTaken words → (fault_of app words ≡ []) ⊎ (fault_of other words ≡ [])
+taken_by_two words app other both named taken =
+    elim (taken_by_name words app.top.name (app ∷ other ∷ []) both named taken) [
+      | inl by ↦ inl by.1
+      | inr more ↦ elim more [ inl by ↦ inr by.1 | inr none ↦ absurd none ]
+    ]
+
 -- two names that a comparison tells apart
 pub apart : (name a b : Text) → bytes_eq a b ≡ false → name ≡ a → name ≡ b → ⊥
 apart name a b differ is-a is-b = true≢false (sym ((bytes_eq-Decides a b).1 (sym is-a ∙ is-b)) ∙ differ)
@@ -130,7 +140,7 @@ unknown name not-redo not-run not-open not-backup not-restore not-audit not-veri
                     not-show,
                     (
                       not-list,
-                      (not-backup, (not-verify, (not-renew, tt))),
+                      (not-backup, (not-verify, (not-renew, (not-restore, tt)))),
                     ),
                   ),
                 ),
@@ -194,13 +204,17 @@ gives_taken words Redo other gives = (0, redo_app, lit< tt, refl, gives)
 gives_taken words (RedoInto output force until) other gives = (4, redo_into_app, lit< tt, refl, gives.0)
 gives_taken words (Run pages frames save strict force) other gives = (1, run_app, lit< tt, refl, gives.0)
 gives_taken words (Open folder pages frames salvage strict) other gives = (5, open_app, lit< tt, refl, gives.0)
-gives_taken words (Restore log master archives output log_output force until) other gives =
+gives_taken words (Restore log master archives output log_output force until manifest no_manifest) other gives =
     (2, restore_app, lit< tt, refl, gives.0)
-gives_taken words (Audit log archives master all until) other gives = (3, audit_app, lit< tt, refl, gives.0)
+gives_taken words (RestoreFolder folder copy output log_output force until manifest no_manifest) other gives =
+    (11, restore_folder_app, lit< tt, refl, gives.0)
+gives_taken words (Audit log archives master all until manifest no_manifest) other gives =
+    (3, audit_app, lit< tt, refl, gives.0)
 gives_taken words (Show file from to txn page json commits) other gives = (6, show_app, lit< tt, refl, gives.0)
-gives_taken words (ListFolder folder json) other gives = (7, list_app, lit< tt, refl, gives.0)
+gives_taken words (ListFolder folder json manifest no_manifest) other gives =
+    (7, list_app, lit< tt, refl, gives.0)
 gives_taken words (Backup folder on full into) other gives = (8, backup_app, lit< tt, refl, gives.0)
-gives_taken words (Verify folder) other gives = (9, verify_app, lit< tt, refl, gives.0)
+gives_taken words (Verify folder manifest no_manifest) other gives = (9, verify_app, lit< tt, refl, gives.0)
 gives_taken words (Renew old renewed) other gives = (10, renew_app, lit< tt, refl, gives.0)
 gives_taken words Version other gives = absurd (other gives)
 

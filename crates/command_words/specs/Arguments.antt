@@ -14,7 +14,7 @@ use Rattle.command_words.specs.Command.{file_rule, folder_rule, force_rule, fram
 use Rattle.command_words.specs.Command.{full_rule, into_rule, json_rule, log_output_rule, log_rule}
 use Rattle.command_words.specs.Command.{manifest_rule, master_rule, no_manifest_rule, old_rule, on_rule, output_rule, page_rule}
 use Rattle.command_words.specs.Command.{pages_rule, renewed_rule, salvage_rule, save_rule}
-use Rattle.command_words.specs.Command.{commits_rule, lsn_parser, strict_rule, to_rule}
+use Rattle.command_words.specs.Command.{commits_rule, copy_rule, lsn_parser, strict_rule, to_rule}
 use Rattle.command_words.specs.Command.{told_pages_rule, txn_rule, until_rule}
 
 -- clap builds the command of these arguments, one after another
@@ -86,6 +86,31 @@ pub record AsksForFiles (command : Parser) : Type 0 where
   pub no_manifest_is : rule_of no_manifest ≡ no_manifest_rule
   pub log_required : TakesValue log
   pub master_required : TakesValue master
+  pub until_parsed : until.value_parser ≡ Some lsn_parser
+
+-- a folder is required, and then a copy may be told, a file for each output, a flag, an LSN, and which
+-- manifest counts
+pub record AsksForCopies (command : Parser) : Type 0 where
+  pub folder : Arg
+  pub copy : Arg
+  pub output : Arg
+  pub log_output : Arg
+  pub force : Arg
+  pub until : Arg
+  pub manifest : Arg
+  pub no_manifest : Arg
+  pub made : IsMadeOf command (folder ∷ copy ∷ output ∷ log_output ∷ force ∷ until
+      ∷ manifest ∷ no_manifest ∷ [])
+  pub folder_is : rule_of folder ≡ folder_rule
+  pub copy_is : rule_of copy ≡ copy_rule
+  pub output_is : rule_of output ≡ output_rule
+  pub log_output_is : rule_of log_output ≡ log_output_rule
+  pub force_is : rule_of force ≡ force_rule
+  pub until_is : rule_of until ≡ until_rule
+  pub manifest_is : rule_of manifest ≡ manifest_rule
+  pub no_manifest_is : rule_of no_manifest ≡ no_manifest_rule
+  pub required : TakesValue folder
+  pub copy_parsed : copy.value_parser ≡ Some (Signed (pos 1) (pos 4294967295))
   pub until_parsed : until.value_parser ≡ Some lsn_parser
 
 -- a log is required, and then archives and a master record may be named, a flag, an LSN, and which
@@ -221,6 +246,5 @@ PassesFrames found =
     (one_text found (codes "frames") ≡ None) ⊎ PassesCount found (codes "frames")
 
 -- the number of a copy is there, or it was not given
-abbrev pub PassesCopy : Found → Type 0
-PassesCopy found =
-    (one_text found (codes "on") ≡ None) ⊎ PassesIn 1 4294967295 found (codes "on")
+abbrev pub PassesCopy : Found → Text → Type 0
+PassesCopy found name = (one_text found name ≡ None) ⊎ PassesIn 1 4294967295 found name

@@ -17,8 +17,8 @@ use Rattle.strsim.specs.Edits.{levenshtein_row}
 use Rattle.command_words.specs.declared.command.Command.{Command}
 use Rattle.command_words.specs.declared.command.Command.TheVariants.{Audit, Backup, ListFolder}
 use Rattle.command_words.specs.declared.command.Command.TheVariants.{Open, Redo, RedoInto, Renew}
-use Rattle.command_words.specs.declared.command.Command.TheVariants.{Restore, Run, Show, Verify}
-use Rattle.command_words.specs.declared.command.Command.TheVariants.{Version}
+use Rattle.command_words.specs.declared.command.Command.TheVariants.{Restore, RestoreFolder, Run}
+use Rattle.command_words.specs.declared.command.Command.TheVariants.{Show, Verify, Version}
 use Rattle.command_words.specs.declared.command.UsageFault.{UsageFault}
 use Rattle.command_words.specs.declared.command.UsageFault.TheVariants.{BadArguments, HelpAsked}
 use Rattle.command_words.specs.declared.command.UsageFault.TheVariants.{MisspelledCommand}
@@ -165,6 +165,25 @@ restore_app = with_manifest_rules (with_rule (with_rule (with_rule
     output_rule)
     log_output_rule) force_rule) until_rule)
 
+-- the copy whose chain is restored
+abbrev pub copy_rule : Rule
+copy_rule = number_rule (codes "which") (codes "copy") 1 4294967295
+
+abbrev pub folder_rule : Rule
+folder_rule = record (new_rule (codes "dir")) {
+  action = Some Set;
+  value_names = 1;
+  required = true;
+}
+
+-- `restore [--copy N] [-o FILE] [--log-out FILE] [--force] [--until LSN] [--manifest FILE]
+-- [--no-manifest] FOLDER`
+abbrev pub restore_folder_app : App
+restore_folder_app = with_manifest_rules (with_rule (with_rule (with_rule
+    (with_rule (with_rule (with_rule (new_app (codes "restore")) folder_rule) copy_rule)
+    output_rule)
+    log_output_rule) force_rule) until_rule)
+
 abbrev pub audited_master_rule : Rule
 audited_master_rule = record (new_rule (codes "master")) {
   long = Some (codes "master");
@@ -183,13 +202,6 @@ abbrev pub audit_app : App
 audit_app = with_manifest_rules (with_rule (with_rule
     (with_rule (with_rule (with_rule (new_app (codes "audit")) log_rule) archive_rule)
     audited_master_rule) all_rule) until_rule)
-
-abbrev pub folder_rule : Rule
-folder_rule = record (new_rule (codes "dir")) {
-  action = Some Set;
-  value_names = 1;
-  required = true;
-}
 
 -- a number of pages that may be left out
 abbrev pub told_pages_rule : Rule
@@ -310,10 +322,10 @@ renewed_rule = record (new_rule (codes "renewed")) {
 abbrev pub renew_app : App
 renew_app = with_rule (with_rule (new_app (codes "renew")) old_rule) renewed_rule
 
--- each command, as clap reads it; `redo` is read in two ways
+-- each command, as clap reads it; `redo` and `restore` are read in two ways
 abbrev pub apps : List App
 apps = redo_app ∷ run_app ∷ restore_app ∷ audit_app ∷ redo_into_app ∷ open_app ∷ show_app
-    ∷ list_app ∷ backup_app ∷ verify_app ∷ renew_app ∷ []
+    ∷ list_app ∷ backup_app ∷ verify_app ∷ renew_app ∷ restore_folder_app ∷ []
 
 -- the first word is the name of the command
 abbrev pub Names : List Text → App → Type 0
@@ -384,6 +396,16 @@ Gives words (Restore log master archives output log_output force until manifest 
     × IsTold (one_of (codes "until_lsn") rows) until
     × (option_map (λ name. name.now) manifest ≡ first_of (codes "manifest_file") rows)
     × IsFlag (one_of (codes "without_sums") rows) no_manifest
+Gives words (RestoreFolder folder copy output log_output force until manifest no_manifest) =
+    let rows = matches_of restore_folder_app words in
+    IsTakenBy words restore_folder_app × (first_of (codes "dir") rows ≡ Some folder.now)
+    × IsTold (one_of (codes "which") rows) copy
+    × (option_map (λ name. name.now) output ≡ first_of (codes "into") rows)
+    × (option_map (λ name. name.now) log_output ≡ first_of (codes "log_into") rows)
+    × IsFlag (one_of (codes "with_force") rows) force
+    × IsTold (one_of (codes "until_lsn") rows) until
+    × (option_map (λ name. name.now) manifest ≡ first_of (codes "manifest_file") rows)
+    × IsFlag (one_of (codes "without_sums") rows) no_manifest
 Gives words (Audit log archives master all until manifest no_manifest) =
     let rows = matches_of audit_app words in
     IsTakenBy words audit_app × (first_of (codes "log") rows ≡ Some log.now)
@@ -427,6 +449,8 @@ HasCounts (Run pages frames save strict force) =
 HasCounts (Open folder pages frames salvage strict) =
     IfSome pages (λ n. (1 ≤ n) × (n ≤ 65536)) × (1 ≤ frames) × (frames ≤ 65536)
 HasCounts (Restore log master archives output log_output force until manifest no_manifest) = Unit {0}
+HasCounts (RestoreFolder folder copy output log_output force until manifest no_manifest) =
+    IfSome copy (λ n. (1 ≤ n) × (n < 2 ^ 32))
 HasCounts (Audit log archives master all until manifest no_manifest) = Unit {0}
 HasCounts (Show file from to txn page json commits) = Unit {0}
 HasCounts (ListFolder folder json manifest no_manifest) = Unit {0}

@@ -117,9 +117,14 @@ const REDO_USAGE: &str =
 
 const RUN_USAGE: &str = "imgcopy run --pages <N> [OPTIONS] < SCRIPT";
 
-const RESTORE_USAGE: &str =
+pub(crate) const RESTORE_ABOUT: &str = "Write the volume that a log and image copies restore\n\n\
+    A FOLDER stands for the files in it: the newest copy that is whole is taken, with those that it\n\
+    stands on, or copy N is, by --copy <N>";
+
+pub const RESTORE_USAGE: &str =
     "imgcopy restore [--log-out <FILE> [--force]] [OPTIONS] <LOG> <MASTER> <ARCHIVE>... > VOLUME\n       \
-    imgcopy restore -o <FILE> [--log-out <FILE>] [--force] [OPTIONS] <LOG> <MASTER> <ARCHIVE>...";
+    imgcopy restore -o <FILE> [--log-out <FILE>] [--force] [OPTIONS] <LOG> <MASTER> <ARCHIVE>...\n       \
+    imgcopy restore [--copy <N>] [OPTIONS] <FOLDER>";
 
 const AUDIT_USAGE: &str = "imgcopy audit [OPTIONS] <LOG> <ARCHIVE>...";
 
@@ -164,7 +169,7 @@ fn restore_command<'a>(alloc: Global) -> Result<clap::Command<'a>, AllocError>
     ensures made { IfOk result AsksForFiles }
 {
     clap::Command::new(alloc, "restore")
-        .about("Write the volume that a log and image copies restore")
+        .about(RESTORE_ABOUT)
         .override_usage(RESTORE_USAGE)
         .bin_name("imgcopy restore")?
         .arg(log_arg(alloc))?
@@ -244,7 +249,7 @@ pub(crate) fn strict_arg<'a>(alloc: Global) -> Arg<'a>
         .action(ArgAction::SetTrue)
 }
 
-fn force_arg<'a>(alloc: Global) -> Arg<'a>
+pub(crate) fn force_arg<'a>(alloc: Global) -> Arg<'a>
     ensures rule { rule_of result ≡ force_rule }
     ensures fits { FitsChain result }
 {
@@ -254,7 +259,7 @@ fn force_arg<'a>(alloc: Global) -> Arg<'a>
         .action(ArgAction::SetTrue)
 }
 
-fn output_arg<'a>(alloc: Global) -> Arg<'a>
+pub(crate) fn output_arg<'a>(alloc: Global) -> Arg<'a>
     ensures rule { rule_of result ≡ output_rule }
     ensures fits { FitsChain result }
 {
@@ -266,7 +271,7 @@ fn output_arg<'a>(alloc: Global) -> Arg<'a>
         .action(ArgAction::Set)
 }
 
-fn log_output_arg<'a>(alloc: Global) -> Arg<'a>
+pub(crate) fn log_output_arg<'a>(alloc: Global) -> Arg<'a>
     ensures rule { rule_of result ≡ log_output_rule }
     ensures fits { FitsChain result }
 {
@@ -277,7 +282,7 @@ fn log_output_arg<'a>(alloc: Global) -> Arg<'a>
         .action(ArgAction::Set)
 }
 
-fn until_arg<'a>(alloc: Global) -> Arg<'a>
+pub(crate) fn until_arg<'a>(alloc: Global) -> Arg<'a>
     ensures rule { rule_of result ≡ until_rule }
     ensures fits { FitsChain result }
     ensures parser { result.value_parser ≡ Some lsn_parser }

@@ -1,6 +1,6 @@
 //! The command line: the first word names a command, and `clap` reads the words after it.
 ghost use Rattle.std.specs.Prelude.{◌≡◌, ◌≢◌, ◌≤◌, ◌↔◌, ◌⊎◌, ◌∷◌, IfErr, IfOk, IsTrue, MatchOption};
-ghost use Rattle.std.specs.Prelude.{IsSomeAnd, MatchResult, Ok, Some, [], codes};
+ghost use Rattle.std.specs.Prelude.{IsErrAnd, IsSomeAnd, MatchResult, Ok, Some, [], codes};
 ghost use Rattle.std.specs.Prelude.{is_some, map, option_map, slice_get, true, unwrap_or};
 ghost use Rattle.clap.specs.Words.{fault_of, first_value, found_of, kind_of, matched_of, one_of};
 ghost use Rattle.clap.specs.Words.{raw_values, rows_of};
@@ -20,6 +20,7 @@ use crate::arguments::{
 };
 use crate::folder_words::{backup_of, renew_of, verify_of};
 use crate::open_words::open_of;
+use crate::restore_words::{names_copy, restore_folder_of};
 use crate::view_words::{list_of, number_in, show_of};
 use clap::ArgMatches;
 use clap::error::ErrorKind;
@@ -70,6 +71,18 @@ pub enum Command<'a> {
         log: &'a str,
         master: &'a str,
         archives: Vec<&'a str>,
+        output: Option<&'a str>,
+        log_output: Option<&'a str>,
+        force: bool,
+        until: Option<u32>,
+        manifest: Option<&'a str>,
+        no_manifest: bool,
+    },
+    /// To restore a volume of the files in this folder: of the newest chain of copies that is whole,
+    /// or of that of the copy of this number, at least 1. The rest is as in `Restore`.
+    RestoreFolder {
+        folder: &'a str,
+        copy: Option<u32>,
         output: Option<&'a str>,
         log_output: Option<&'a str>,
         force: bool,
@@ -263,7 +276,7 @@ fn help_of<'a>(alloc: Global, name: &'a str) -> Result<Command<'a>, UsageFault<'
         "run" => run_of(alloc, &["run", "--help"]),
         "open" => open_of(alloc, &["open", "--help"]),
         "backup" => backup_of(alloc, &["backup", "--help"]),
-        "restore" => restore_of(alloc, &["restore", "--help"]),
+        "restore" => restore_files_of(alloc, &["restore", "--help"]),
         "audit" => audit_of(alloc, &["audit", "--help"]),
         "verify" => verify_of(alloc, &["verify", "--help"]),
         "show" => show_of(alloc, &["show", "--help"]),
@@ -409,7 +422,43 @@ pub(crate) fn frames_in(matches: &ArgMatches<'_>) -> u32
     matches.get_one::<u32>("frames").unwrap_or(DEFAULT_FRAMES)
 }
 
+/// `restore` takes files. Words that do not name them may name a folder.
 fn restore_of<'a, S: AsStr>(alloc: Global, words: &'a [S]) -> Result<Command<'a>, UsageFault<'a>>
+    requires { Names (map S.text words.now) restore_app }
+    ensures ok { IfOk result (Gives (map S.text words.now)) }
+    ensures counts { IfOk result HasCounts }
+    ensures is_restore { IfOk result (λ command. command ≢ Command.Redo) }
+    ensures only { IfErr result (λ fault.
+        IsTaken (map S.text words.now) → fault ≡ UsageFault.OutOfMemory) }
+    ensures explained { IfErr result (ExplainsRead (map S.text words.now)) }
+{
+    match restore_files_of(alloc, words) {
+        Err(UsageFault::BadArguments(fault)) => {
+            let given = restore_folder_of(alloc, words);
+            if is_refused_else(&given, words) {
+                Err(UsageFault::BadArguments(fault))
+            } else {
+                given
+            }
+        }
+        given => given,
+    }
+}
+
+/// Whether words that are those of no folder are told as those of no files.
+fn is_refused_else<S: AsStr>(given: &Result<Command<'_>, UsageFault<'_>>, words: &[S]) -> bool
+    ensures { IsTrue result → IsErrAnd given.now (λ fault. fault ≢ UsageFault.OutOfMemory) }
+{
+    match given {
+        Err(UsageFault::BadArguments(_)) => !names_copy(words),
+        _ => false,
+    }
+}
+
+fn restore_files_of<'a, S: AsStr>(
+    alloc: Global,
+    words: &'a [S],
+) -> Result<Command<'a>, UsageFault<'a>>
     requires { Names (map S.text words.now) restore_app }
     ensures ok { IfOk result (Gives (map S.text words.now)) }
     ensures counts { IfOk result HasCounts }

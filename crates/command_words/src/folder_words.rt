@@ -41,7 +41,7 @@ pub(crate) fn backup_of<'a, S: AsStr>(
 {
     let matches = backup_matches(alloc, words)?;
     let folder = value_in(&matches, "dir");
-    let on = copy_in(&matches);
+    let on = copy_in(&matches, "on");
     let full = matches.get_flag("is_full");
     let into = matches.get_str("into");
     Ok(Command::Backup {
@@ -106,7 +106,7 @@ fn backup_matches<'a, S: AsStr>(
         rows_of (found_of it) ≡ matches_of backup_app (map S.text words.now)) }
     ensures folder { IfOk result (λ it.
         is_some (first_value (found_of it) (codes "dir")) ≡ true) }
-    ensures copy { IfOk result (λ it. PassesCopy (found_of it)) }
+    ensures copy { IfOk result (λ it. PassesCopy (found_of it) (codes "on")) }
     ensures only { IfErr result (λ fault.
         fault_of backup_app (map S.text words.now) ≡ [] → fault ≡ OutOfMemory) }
     ensures explained { IfErr result (ExplainsRead (map S.text words.now)) }
@@ -248,12 +248,12 @@ fn renewed_arg<'a>(alloc: Global) -> Arg<'a>
         .action(ArgAction::Set)
 }
 
-/// The number of the copy that a new one is to stand on, if that was told.
-fn copy_in(matches: &ArgMatches<'_>) -> Option<u32>
-    requires { PassesCopy (found_of matches.now) }
+/// The number of a copy, if that was told.
+pub(crate) fn copy_in(matches: &ArgMatches<'_>, id: &str) -> Option<u32>
+    requires { PassesCopy (found_of matches.now) id.now }
     ensures least { IfSome result (λ copy. 1 ≤ copy) }
     ensures most { IfSome result (λ copy. copy < 2 ^ 32) }
-    ensures read { IsTold (one_of (codes "on") (rows_of (found_of matches.now))) result }
+    ensures read { IsTold (one_of id.now (rows_of (found_of matches.now))) result }
 {
-    matches.get_one::<u32>("on")
+    matches.get_one::<u32>(id)
 }

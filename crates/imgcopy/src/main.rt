@@ -10,7 +10,7 @@ ghost use Rattle.script_run.specs.Status.{status_of_finish};
 mod advice;
 mod audits;
 mod chain_reason;
-mod checked_restores;
+mod copy_chain;
 mod folder_commands;
 mod headers;
 mod leftovers;
@@ -23,6 +23,7 @@ mod output_folder;
 mod read_once;
 mod reasons;
 mod redone_volume;
+mod restore_folder;
 mod restores;
 mod saving;
 mod strict;
@@ -46,6 +47,7 @@ use page_core::{FaultName, Lsn, PageNo, TxnNo};
 use page_redo::{StreamFault, redo_stream};
 use reasons::{Named, tell_redo};
 use redone_volume::RedoneVolume;
+use restore_folder::{FolderRestore, restore_folder};
 use restores::{Outputs, restore};
 use saved_files::{PutFault, PutStoredFault, put_and_store};
 use saving::Saving;
@@ -163,7 +165,35 @@ fn main(rt: HostRuntime) -> ExitCode {
                 log: log_output,
                 force,
             };
-            restore(&rt, &rt, &names, master, outputs)
+            restore(&rt, &rt, &names, master, outputs).status()
+        }
+        Ok(
+            Command::RestoreFolder {
+                folder,
+                copy,
+                output,
+                log_output,
+                force,
+                until,
+                manifest,
+                no_manifest,
+            },
+        ) => {
+            let Some(manifest) = ManifestUse::of(manifest, no_manifest) else {
+                return told(&rt, &BOTH_MANIFESTS);
+            };
+            let wanted = FolderRestore {
+                folder,
+                copy,
+                until: lsn_of(until),
+                manifest,
+            };
+            let outputs = Outputs {
+                volume: output,
+                log: log_output,
+                force,
+            };
+            restore_folder(&rt, &rt, &wanted, outputs)
         }
         Ok(
             Command::Audit {

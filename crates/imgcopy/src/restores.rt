@@ -5,17 +5,18 @@ ghost use Rattle.std.specs.Process.{exit_status};
 ghost use Rattle.script_run.specs.Status.{status_of_restore};
 
 use crate::advice::tell_unwritten;
-use crate::checked_restores::{
-    checked_volume, put_checked_both, put_checked_log, put_checked_volume,
-};
 use crate::manifests::Checks;
 use crate::output::{Inputs, Limits, have_one_folder, is_one_place, tell, tell_output};
 use crate::output_folder::OutputFolder;
-use crate::reasons::Named;
+use crate::reasons::{FIRST_ARCHIVE, Named};
 use crate::untils::restore_until;
 use crate::{noted, patient, refused_terminal};
+use checked_files::CheckedFiles;
 use media_restore::{RestoreFault, WithLogFault};
-use saved_files::{NamedFiles, PutBothFault, PutFault, PutStoredFault, RestoreNames, Which};
+use saved_files::{
+    NamedFiles, PutBothFault, PutFault, PutStoredFault, RestoreNames, Which, put_restored_both,
+    put_restored_log, put_restored_volume, restore_volume,
+};
 use script_run::{FAULT_STATUS, restore_status};
 use std::io;
 use std::io::IsTerminal;
@@ -32,6 +33,30 @@ pub struct Outputs<'a> {
     pub force: bool,
 }
 
+/// How a restore ended.
+#[derive(Drop)]
+pub enum Ended {
+    Well,
+    /// It was told why, and with which status. The fault was one of this archive itself, counted
+    /// from the first, if it was one's.
+    Told(ExitCode, Option<usize>),
+}
+
+impl Ended {
+    /// A fault was told that is no archive's.
+    pub fn refused(status: ExitCode) -> Ended {
+        Ended::Told(status, None)
+    }
+
+    /// The program's status.
+    pub fn status(self) -> ExitCode {
+        match self {
+            Ended::Well => ExitCode::SUCCESS,
+            Ended::Told(status, _) => status,
+        }
+    }
+}
+
 /// Restores a volume from files, and its log if a file for that is named. The log counts up to the
 /// record at an LSN, if one is told. A file that a manifest names has to be that file; that there is
 /// no manifest is told.
@@ -41,17 +66,17 @@ pub fn restore(
     names: &Named<'_>,
     master: &str,
     outputs: Outputs<'_>,
-) -> ExitCode {
+) -> Ended {
     let notes = Notes::new();
     let Some(checks) = Checks::of(rt, names) else {
-        return ExitCode::from(FAULT_STATUS);
+        return Ended::refused(ExitCode::from(FAULT_STATUS));
     };
-    let status = restore_checked(rt, threads, (names, &notes, &checks), master, outputs);
-    if status == ExitCode::SUCCESS {
+    let ended = restore_checked(rt, threads, (names, &notes, &checks), master, outputs);
+    if matches!(ended, Ended::Well) {
         checks.tell_unnamed(rt);
         checks.tell_bare(rt);
     }
-    status
+    ended
 }
 
 /// The same, from files of which it is known what manifests say.
@@ -61,7 +86,7 @@ fn restore_checked(
     read: (&Named<'_>, &Notes, &Checks<'_>),
     master: &str,
     outputs: Outputs<'_>,
-) -> ExitCode {
+) -> Ended {
     let (names, notes, _) = read;
     if let Some(until) = names.until {
         return restore_until(rt, threads, read, master, outputs, until);
@@ -78,18 +103,28 @@ pub fn restore_from<N: NamedFiles>(
     read: (&Named<'_>, &Notes, &Checks<'_>),
     master: &str,
     outputs: Outputs<'_>,
-) -> ExitCode {
-    let (names, _, _) = read;
+) -> Ended {
+    let (names, _, checks) = read;
+    let files = CheckedFiles {
+        files,
+        expected: checks.expected.as_slice(),
+        notes: &checks.notes,
+    };
+    let from = RestoreNames {
+        log: names.log,
+        master,
+        archives: names.archives,
+    };
     let limits = Limits {
         inputs: Inputs::Named(names),
         force: outputs.force,
     };
     match (outputs.volume, outputs.log) {
-        (None, None) => restore_out(rt, threads, files, read, master),
-        (Some(path), None) => restore_into(rt, threads, files, read, master, (path, limits)),
-        (None, Some(log)) => restore_log_into(rt, threads, files, read, master, (log, limits)),
+        (None, None) => restore_out(rt, threads, &files, read, from),
+        (Some(path), None) => restore_into(rt, threads, &files, read, from, (path, limits)),
+        (None, Some(log)) => restore_log_into(rt, threads, &files, read, from, (log, limits)),
         (Some(path), Some(log)) => {
-            restore_both_into(rt, threads, files, read, master, (path, log, limits))
+            restore_both_into(rt, threads, &files, read, from, (path, log, limits))
         }
     }
 }
@@ -100,27 +135,22 @@ fn restore_out<N: NamedFiles>(
     threads: &(impl Threads + Sync),
     files: &N,
     read: (&Named<'_>, &Notes, &Checks<'_>),
-    master: &str,
-) -> ExitCode {
+    from: RestoreNames<'_>,
+) -> Ended {
     if rt.stdout().is_terminal() {
-        return refused_terminal(rt);
+        return Ended::refused(refused_terminal(rt));
     }
-    let ((names, notes, checks), output) = (read, Notes::new());
-    let done = checked_volume(
+    let output = Notes::new();
+    let done = restore_volume(
         files,
-        checks,
         threads,
         rt.alloc(),
-        restored_from(names, master),
+        from.log,
+        from.master,
+        from.archives,
         &mut noted(patient(rt, io::writer(rt)), &output),
     );
-    let status = status_of_files(rt, &done);
-    match &done {
-        Err(RestoreFault::WriteFault(_)) => tell_unwritten(rt, &output),
-        Err(fault) => checks.tell_input(rt, names, fault, notes),
-        Ok(()) => {}
-    }
-    status
+    told(rt, read, &done, (None, &output))
 }
 
 /// The same, into a file.
@@ -129,26 +159,20 @@ fn restore_into<N: NamedFiles>(
     threads: &(impl Threads + Sync),
     files: &N,
     read: (&Named<'_>, &Notes, &Checks<'_>),
-    master: &str,
+    from: RestoreNames<'_>,
     output: (&str, Limits<'_>),
-) -> ExitCode {
-    let (path, limits) = output;
-    let ((names, notes, checks), written) = (read, Notes::new());
+) -> Ended {
+    let ((path, limits), written) = (output, Notes::new());
     let Some(mut folder) = OutputFolder::of(rt, path, limits, &written) else {
-        return ExitCode::from(FAULT_STATUS);
+        return Ended::refused(ExitCode::from(FAULT_STATUS));
     };
-    let (name, from) = (folder.name(), restored_from(names, master));
-    match put_checked_volume(&mut folder, rt.alloc(), name, files, checks, threads, from) {
-        Ok(()) => ExitCode::SUCCESS,
+    let name = folder.name();
+    match put_restored_volume(&mut folder, rt.alloc(), name, files, threads, from) {
+        Ok(()) => Ended::Well,
         Err(PutStoredFault::Unput(PutFault::Unwritten(fault))) => {
-            let status = status_of_files(rt, &Err(fault));
-            match &fault {
-                RestoreFault::WriteFault(_) => tell_output(rt, path, &written),
-                fault => checks.tell_input(rt, names, fault, notes),
-            }
-            status
+            told(rt, read, &Err(fault), (Some(path), &written))
         }
-        Err(fault) => folder.tell_unput(&fault),
+        Err(fault) => Ended::refused(folder.tell_unput(&fault)),
     }
 }
 
@@ -159,43 +183,26 @@ fn restore_log_into<N: NamedFiles>(
     threads: &(impl Threads + Sync),
     files: &N,
     read: (&Named<'_>, &Notes, &Checks<'_>),
-    master: &str,
+    from: RestoreNames<'_>,
     output: (&str, Limits<'_>),
-) -> ExitCode {
-    let (path, limits) = output;
+) -> Ended {
+    let (log, limits) = output;
     if rt.stdout().is_terminal() {
-        return refused_terminal(rt);
+        return Ended::refused(refused_terminal(rt));
     }
-    let ((names, notes, checks), output, written) = (read, Notes::new(), Notes::new());
-    let Some(mut folder) = OutputFolder::of(rt, path, limits, &written) else {
-        return ExitCode::from(FAULT_STATUS);
+    let (output, written) = (Notes::new(), Notes::new());
+    let Some(mut folder) = OutputFolder::of(rt, log, limits, &written) else {
+        return Ended::refused(ExitCode::from(FAULT_STATUS));
     };
     let mut volume = noted(patient(rt, io::writer(rt)), &output);
-    let (name, from) = (folder.name(), restored_from(names, master));
-    let done = put_checked_log(
-        &mut folder,
-        rt.alloc(),
-        name,
-        files,
-        checks,
-        threads,
-        from,
-        &mut volume,
-    );
-    match done {
-        Ok(()) => ExitCode::SUCCESS,
+    let name = folder.name();
+    let alloc = rt.alloc();
+    match put_restored_log(&mut folder, alloc, name, files, threads, from, &mut volume) {
+        Ok(()) => Ended::Well,
         Err(PutStoredFault::Unput(PutFault::Unwritten(fault))) => {
-            let status = status_of_files(rt, &Err(fault.told()));
-            match &fault {
-                WithLogFault::OfLog(_) => tell_output(rt, path, &written),
-                WithLogFault::OfVolume(RestoreFault::WriteFault(_)) => {
-                    tell_unwritten(rt, &output);
-                }
-                WithLogFault::OfVolume(fault) => checks.tell_input(rt, names, fault, notes),
-            }
-            status
+            told_with_log(rt, read, fault, (None, &output), (Some(log), &written))
         }
-        Err(fault) => folder.tell_unput(&fault),
+        Err(fault) => Ended::refused(folder.tell_unput(&fault)),
     }
 }
 
@@ -208,48 +215,86 @@ fn restore_both_into<N: NamedFiles>(
     threads: &(impl Threads + Sync),
     files: &N,
     read: (&Named<'_>, &Notes, &Checks<'_>),
-    master: &str,
+    from: RestoreNames<'_>,
     outputs: (&str, &str, Limits<'_>),
-) -> ExitCode {
+) -> Ended {
     let (path, log, limits) = outputs;
     if is_one_place(rt, path, log) {
         tell(rt, log, &"the volume is to be written there, too");
-        return ExitCode::from(FAULT_STATUS);
+        return Ended::refused(ExitCode::from(FAULT_STATUS));
     }
-    let ((names, notes, checks), written, log_written) = (read, Notes::new(), Notes::new());
-    let folders = folders_of(rt, (path, &written), (log, &log_written), limits);
+    let (output, written) = (Notes::new(), Notes::new());
+    let folders = folders_of(rt, (path, &output), (log, &written), limits);
     let Some((mut folder, mut log_folder)) = folders else {
-        return ExitCode::from(FAULT_STATUS);
+        return Ended::refused(ExitCode::from(FAULT_STATUS));
     };
     let (log_name, name) = (log_folder.name(), folder.name());
-    let done = put_checked_both(
+    let done = put_restored_both(
         &mut log_folder,
         log_name,
         &mut folder,
         name,
         rt.alloc(),
         files,
-        checks,
         threads,
-        restored_from(names, master),
+        from,
     );
     match done {
-        Ok(()) => ExitCode::SUCCESS,
-        Err(PutBothFault::Unwritten(fault)) => {
-            let status = status_of_files(rt, &Err(fault.told()));
-            match &fault {
-                WithLogFault::OfLog(_) => tell_output(rt, log, &log_written),
-                WithLogFault::OfVolume(RestoreFault::WriteFault(_)) => {
-                    tell_output(rt, path, &written);
-                }
-                WithLogFault::OfVolume(fault) => checks.tell_input(rt, names, fault, notes),
-            }
-            status
-        }
+        Ok(()) => Ended::Well,
+        Err(PutBothFault::Unwritten(fault)) => told_with_log(
+            rt,
+            read,
+            fault,
+            (Some(path), &output),
+            (Some(log), &written),
+        ),
         Err(fault) => {
             tell_unput(&log_folder, &folder, &fault);
-            ExitCode::from(FAULT_STATUS)
+            Ended::refused(ExitCode::from(FAULT_STATUS))
         }
+    }
+}
+
+/// The same as `told`, where the log was to be written, too.
+fn told_with_log(
+    rt: &HostRuntime,
+    read: (&Named<'_>, &Notes, &Checks<'_>),
+    fault: WithLogFault,
+    volume: (Option<&str>, &Notes),
+    log: (Option<&str>, &Notes),
+) -> Ended {
+    match fault {
+        WithLogFault::OfLog(_) => told(rt, read, &Err(fault.told()), log),
+        WithLogFault::OfVolume(fault) => told(rt, read, &Err(fault), volume),
+    }
+}
+
+/// Tells the fault of a restore, and where it was met: in a file that was read, or in the output of
+/// this path, or on standard output.
+fn told(
+    rt: &HostRuntime,
+    read: (&Named<'_>, &Notes, &Checks<'_>),
+    done: &Result<(), RestoreFault>,
+    output: (Option<&str>, &Notes),
+) -> Ended {
+    let (names, notes, checks) = read;
+    let status = status_of_files(rt, done);
+    match (done, output) {
+        (Ok(()), _) => return Ended::Well,
+        (Err(RestoreFault::WriteFault(_)), (Some(path), written)) => tell_output(rt, path, written),
+        (Err(RestoreFault::WriteFault(_)), (None, written)) => tell_unwritten(rt, written),
+        (Err(fault), _) => checks.tell_input(rt, names, fault, notes),
+    }
+    Ended::Told(status, spoiled_by(done, notes))
+}
+
+/// The archive that could not be read, or that is none by itself. Where one does not go with the
+/// log, it may be the log that is wrong.
+fn spoiled_by(done: &Result<(), RestoreFault>, notes: &Notes) -> Option<usize> {
+    match done {
+        Err(RestoreFault::ReadFault | RestoreFault::BadArchive(_) | RestoreFault::CountDiffers) =>
+            notes.read_last()?.checked_sub(FIRST_ARCHIVE),
+        _ => None,
     }
 }
 
@@ -292,15 +337,6 @@ fn tell_unput<E>(log: &OutputFolder<'_>, volume: &OutputFolder<'_>, fault: &PutB
             log.tell_placed();
             volume.tell_placed();
         }
-    }
-}
-
-/// The names of the files that a restore reads.
-fn restored_from<'a>(names: &Named<'a>, master: &'a str) -> RestoreNames<'a> {
-    RestoreNames {
-        log: names.log,
-        master,
-        archives: names.archives,
     }
 }
 

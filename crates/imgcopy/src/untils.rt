@@ -11,7 +11,7 @@ use crate::output_folder::OutputFolder;
 use crate::read_once::ReadOnce;
 use crate::reasons::Named;
 use crate::redone_volume::RedoneUntil;
-use crate::restores::{Outputs, restore_from};
+use crate::restores::{Ended, Outputs, restore_from};
 use crate::{answered, noted, patient, refused_terminal};
 use file_view::ViewFault;
 use media_restore::{RestoreFault, UntilFault, redo_until};
@@ -33,7 +33,7 @@ pub fn restore_until(
     master: &str,
     outputs: Outputs<'_>,
     until: Lsn,
-) -> ExitCode {
+) -> Ended {
     let (names, notes, _) = read;
     let log = Named {
         log: names.log,
@@ -44,7 +44,7 @@ pub fn restore_until(
     };
     let once = match ReadOnce::of(rt, &log, notes) {
         Ok(once) => once,
-        Err(fault) => return told_unread(rt, &log, &fault, notes),
+        Err(fault) => return Ended::refused(told_unread(rt, &log, &fault, notes)),
     };
     let files = &once;
     match UntilFiles::new(&files, rt.alloc(), names.log, Some(master), until) {
@@ -52,7 +52,7 @@ pub fn restore_until(
         Err(fault) => {
             let status = told_until(rt, &fault);
             tell_until(rt, names, &fault, notes);
-            status
+            Ended::refused(status)
         }
     }
 }

@@ -1,5 +1,5 @@
 use Rattle.std.proofs.Common.{Some, ap, codes, inr, map, refl, ◌∙◌}
-use Rattle.command_words.specs.Command.{audit_app, backup_app, list_app, open_app, renew_app, restore_app, run_app, show_app}
+use Rattle.command_words.specs.Command.{audit_app, backup_app, list_app, open_app, renew_app, run_app, show_app}
 use Rattle.command_words.specs.Command.{verify_app}
 use Rattle.command_words.proofs.NameLemmas.{apart, first_word, help_explains, not_of_redo, only_by, read_as_they_stand}
 use Rattle.command_words.proofs.NameLemmas.{read_explains, taken_by, unknown, unknown_explains, unnamed}
@@ -28,14 +28,6 @@ returns-in-backup-clause-only g c =
     c.in-Some.ensures.value c.as_str.ensures in
     only_by words backup_app c.backup_of.result (taken_by words backup_app refl (first ∙ ap Some c.in-backup.is))
     c.backup_of.ensures.only
-
-pub returns-in-restore-clause-only : goal.returns-in-restore-clause-only
-returns-in-restore-clause-only g c =
-    let words = map g.S.AsStr.text c.args.words.now in
-    let first = first_word g.S.AsStr.text c.args.words.now c.in-Some.name.now c.as_str.result.now
-    c.in-Some.ensures.value c.as_str.ensures in
-    only_by words restore_app c.restore_of.result (taken_by words restore_app refl (first ∙ ap Some c.in-restore.is))
-    c.restore_of.ensures.only
 
 pub returns-in-audit-clause-only : goal.returns-in-audit-clause-only
 returns-in-audit-clause-only g c =

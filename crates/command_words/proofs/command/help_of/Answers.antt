@@ -1,8 +1,9 @@
 use Rattle.std.proofs.Common.{IfErr, [], codes, refl, subst, sym, ◌∷◌}
 use Rattle.command_words.specs.Command.{ExplainsRead, audit_app, backup_app, list_app, open_app, redo_into_app, renew_app}
-use Rattle.command_words.specs.Command.{restore_app, run_app, show_app, verify_app}
+use Rattle.command_words.specs.Command.{run_app, show_app, verify_app}
 use Rattle.command_words.proofs.ClapLemmas.{help_of_audit, help_of_backup, help_of_list, help_of_open, help_of_redo}
-use Rattle.command_words.proofs.ClapLemmas.{help_of_renew, help_of_restore, help_of_run, help_of_show, help_of_verify}
+use Rattle.command_words.proofs.ClapLemmas.{help_of_renew, help_of_run, help_of_show, help_of_verify}
+use Rattle.command_words.proofs.FolderRestoreLemmas.{help_restores_none}
 use Rattle.command_words.proofs.NameLemmas.{help_gives_none, no_version, taken_by}
 use Rattle.command_words.proofs.RedoLemmas.{help_is_other, taken_redo_into}
 use Rattle.command_words.proofs.command.help_of.Goals as goal
@@ -53,14 +54,12 @@ returns-in-backup-clause-explained c =
 
 pub returns-in-restore-clause-refused : goal.returns-in-restore-clause-refused
 returns-in-restore-clause-refused c =
-    let words = codes "restore" ∷ codes "--help" ∷ [] in
-    help_gives_none words restore_app c.restore_of.result (no_version words (codes "restore") refl refl refl)
-    c.restore_of.ensures.ok (taken_by words restore_app refl refl) help_of_restore
+    help_restores_none c.restore_files_of.result c.restore_files_of.ensures.ok
 
 pub returns-in-restore-clause-explained : goal.returns-in-restore-clause-explained
 returns-in-restore-clause-explained c =
-    subst (λ name. IfErr c.restore_of.result (ExplainsRead (name ∷ codes "--help" ∷ []))) (sym c.in-restore.is)
-    c.restore_of.ensures.explained
+    subst (λ name. IfErr c.restore_files_of.result (ExplainsRead (name ∷ codes "--help" ∷ []))) (sym c.in-restore.is)
+    c.restore_files_of.ensures.explained
 
 pub returns-in-audit-clause-refused : goal.returns-in-audit-clause-refused
 returns-in-audit-clause-refused c =

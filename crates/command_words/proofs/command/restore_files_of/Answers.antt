@@ -1,0 +1,31 @@
+use Rattle.std.proofs.Common.{List, Option, [], ap, codes, subst, sym, ◌∙◌}
+use Rattle.std.specs.Prelude.{unwrap_or}
+use Rattle.clap.specs.Words.{Text, all_of, found_of, first_of, one_of}
+use Rattle.clap.proofs.WalkLemmas.{first_value-rows, one_text-rows, raw_values-rows}
+use Rattle.command_words.specs.Command.{IsFlag, IsTold}
+use Rattle.command_words.proofs.command.restore_files_of.Goals as goal
+
+pub returns-clause-ok : goal.returns-clause-ok
+returns-clause-ok g c =
+    let found = found_of c.in_ok-matches.matches in
+    let rows = c.in_ok-matches.ensures.rows in (
+      (c.requires, c.in_ok-matches.ensures.taken),
+      ap (first_of (codes "log")) (sym rows)
+          ∙ (sym (first_value-rows found (codes "log")) ∙ c.value_in-log.ensures),
+      ap (first_of (codes "master")) (sym rows)
+          ∙ (sym (first_value-rows found (codes "master")) ∙ c.value_in-master.ensures),
+      c.in_ok-archives.ensures ∙ ap (λ (o : Option (List Text)). unwrap_or o [])
+          (raw_values-rows found (codes "archive") ∙ ap (all_of (codes "archive")) rows),
+      c.get_str-output.ensures ∙ (first_value-rows found (codes "into") ∙ ap (first_of (codes "into")) rows),
+      c.get_str-log_output.ensures
+          ∙ (first_value-rows found (codes "log_into") ∙ ap (first_of (codes "log_into")) rows),
+      subst (λ o. IsFlag o c.get_flag-force.result)
+          (one_text-rows (found_of c.in_ok-matches.matches) (codes "with_force") ∙ ap (one_of (codes "with_force")) rows)
+          (c.get_flag-force.ensures.none, c.get_flag-force.ensures.value, c.get_flag-force.ensures.other),
+      subst (λ found. IsTold (one_of (codes "until_lsn") found) c.number_in-until.result) rows c.number_in-until.ensures,
+      c.get_str-manifest.ensures
+          ∙ (first_value-rows found (codes "manifest_file") ∙ ap (first_of (codes "manifest_file")) rows),
+      subst (λ o. IsFlag o c.get_flag-no_manifest.result)
+          (one_text-rows found (codes "without_sums") ∙ ap (one_of (codes "without_sums")) rows)
+          (c.get_flag-no_manifest.ensures.none, c.get_flag-no_manifest.ensures.value, c.get_flag-no_manifest.ensures.other),
+    )

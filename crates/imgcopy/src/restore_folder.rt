@@ -1,0 +1,234 @@
+//! The command `restore` with a folder: which of the chains of copies there it takes.
+
+use crate::copy_chain::{chain_of, newest_chain};
+use crate::list::{header_of, ids_in};
+use crate::reasons::Named;
+use crate::restores::{Ended, Outputs, restore};
+use checked_files::ManifestUse;
+use command_words::RESTORE_USAGE;
+use copy_vault::CopyId;
+use file_view::{CopyHeader, ViewFault};
+use media_restore::RestoreFault;
+use page_core::Lsn;
+use script_run::{FAULT_STATUS, restore_status};
+use std::alloc::AllocError;
+use std::process::ExitCode;
+use std::thread::Threads;
+use std::{fmt, fs};
+use system_files::Escaped;
+
+/// Which chain of a folder is restored, up to which record, and which manifest counts.
+#[derive(Clone, Copy)]
+pub struct FolderRestore<'a> {
+    pub folder: &'a str,
+    /// The copy whose chain it is; without it that is the newest whole one.
+    pub copy: Option<u32>,
+    pub until: Option<Lsn>,
+    pub manifest: ManifestUse<'a>,
+}
+
+/// Restores a volume from the files in a folder: from the newest chain of copies that is whole, or
+/// from that of the copy of this number. Where an archive of the newest one cannot be read, or is
+/// none, this is told, and the newest chain without it is tried. It is told which one was taken.
+pub fn restore_folder(
+    rt: &HostRuntime,
+    threads: &(impl Threads + Sync),
+    wanted: &FolderRestore<'_>,
+    outputs: Outputs<'_>,
+) -> ExitCode {
+    if wanted.copy.is_none() && !is_folder(rt, wanted.folder) {
+        return ExitCode::from(FAULT_STATUS);
+    }
+    match restored(rt, threads, wanted, outputs) {
+        Ok(status) => status,
+        Err(_) => told_fault(rt, &ViewFault::OutOfMemory),
+    }
+}
+
+/// Whether a folder is there. Where another file is, the words lack those that are named beside it.
+fn is_folder(rt: &HostRuntime, place: &str) -> bool {
+    let there = fs::metadata(rt, place);
+    if let Ok(there) = &there {
+        if there.is_dir() {
+            return true;
+        }
+    }
+    let _ = eprintln!(rt;
+        "error: the following required arguments were not provided:\n  <MASTER>\n\nUsage: {RESTORE_USAGE}\n\nFor more information, try '--help'."
+    );
+    if let Err(error) = there {
+        let place = Escaped(place);
+        let _ = eprintln!(rt; "imgcopy: {place}: {error}");
+    }
+    false
+}
+
+fn told_fault(rt: &impl Eprint, fault: &ViewFault) -> ExitCode {
+    let _ = rt.eprintln(fault);
+    ExitCode::from(FAULT_STATUS)
+}
+
+fn restored(
+    rt: &HostRuntime,
+    threads: &(impl Threads + Sync),
+    wanted: &FolderRestore<'_>,
+    outputs: Outputs<'_>,
+) -> Result<ExitCode, AllocError> {
+    let (folder, copy) = (wanted.folder, wanted.copy);
+    let ids = match ids_in(rt, folder) {
+        Ok(ids) => ids,
+        Err(fault) => return Ok(told_fault(rt, &fault)),
+    };
+    let mut headers = headers_in(rt, folder, ids.as_slice(), copy)?;
+    let mut first = None;
+    for _ in 0..=ids.len() {
+        let Some(chain) = chain_in(rt, headers.as_slice(), copy)? else {
+            break;
+        };
+        let (place, copies) = (Escaped(folder), Copies(chain.as_slice()));
+        if first.is_some() {
+            let _ = eprintln!(rt; "imgcopy: {place}: {copies} is tried next");
+        }
+        let ended = restore_chain(rt, threads, wanted, chain.as_slice(), outputs)?;
+        let Ended::Told(status, spoiled) = ended else {
+            let _ = eprintln!(rt; "imgcopy: {place}: restored from {copies}");
+            return Ok(ExitCode::SUCCESS);
+        };
+        if first.is_none() {
+            first = Some(status);
+        }
+        let (Some(spoiled), None) = (spoiled, copy) else {
+            break;
+        };
+        let Some(id) = copy_at(chain.as_slice(), spoiled) else {
+            break;
+        };
+        let _ = eprintln!(rt; "imgcopy: {place}: {copies} is left out");
+        headers = without(rt, headers.as_slice(), id)?;
+    }
+    Ok(match first {
+        Some(status) => status,
+        None => told_no_chain(rt, folder, copy, ids.is_empty()),
+    })
+}
+
+/// The headers of the copies of these ids, up to that of the copy that is wanted. What is wrong with
+/// one is told.
+fn headers_in(
+    rt: &HostRuntime,
+    folder: &str,
+    ids: &[u32],
+    copy: Option<u32>,
+) -> Result<Vec<CopyHeader>, AllocError> {
+    let most = copy.unwrap_or(u32::MAX);
+    let mut headers = Vec::new(rt.alloc());
+    for id in ids {
+        if *id > most {
+            continue;
+        }
+        if let Some((header, _)) = header_of(rt, folder, *id)? {
+            headers.push(header)?;
+        }
+    }
+    Ok(headers)
+}
+
+/// The chain of the copy that is wanted, or the newest one, the newest copy first.
+fn chain_in(
+    rt: &HostRuntime,
+    headers: &[CopyHeader],
+    copy: Option<u32>,
+) -> Result<Option<Vec<u32>>, AllocError> {
+    match copy {
+        Some(id) => chain_of(rt.alloc(), headers, id),
+        None => newest_chain(rt.alloc(), headers),
+    }
+}
+
+/// The copy whose archive stands at this place of a chain, counted from the full one on.
+fn copy_at(chain: &[u32], place: usize) -> Option<u32> {
+    let last = chain.len().checked_sub(1)?;
+    Some(*chain.get(last.checked_sub(place)?)?)
+}
+
+/// The headers of the other copies.
+fn without(
+    rt: &HostRuntime,
+    headers: &[CopyHeader],
+    id: u32,
+) -> Result<Vec<CopyHeader>, AllocError> {
+    let mut others = Vec::new(rt.alloc());
+    for header in headers {
+        if header.id != id {
+            others.push(*header)?;
+        }
+    }
+    Ok(others)
+}
+
+/// Restores a volume from a chain of the folder's copies.
+fn restore_chain(
+    rt: &HostRuntime,
+    threads: &(impl Threads + Sync),
+    wanted: &FolderRestore<'_>,
+    chain: &[u32],
+    outputs: Outputs<'_>,
+) -> Result<Ended, AllocError> {
+    let (alloc, folder) = (rt.alloc(), wanted.folder);
+    let log = format!(in alloc; "{folder}/log")?;
+    let master = format!(in alloc; "{folder}/master")?;
+    let mut files = Vec::new(alloc);
+    for id in chain.iter().rev() {
+        files.push(format!(in alloc; "{folder}/copy-{id}")?)?;
+    }
+    let mut archives = Vec::new(alloc);
+    for name in &files {
+        archives.push(name.as_str())?;
+    }
+    let names = Named {
+        log: log.as_str(),
+        master: Some(master.as_str()),
+        archives: &archives,
+        until: wanted.until,
+        manifest: wanted.manifest,
+    };
+    Ok(restore(rt, threads, &names, master.as_str(), outputs))
+}
+
+/// Tells that the copy that is wanted has no whole chain, or that none has, or that there is none.
+fn told_no_chain(rt: &impl Eprint, folder: &str, copy: Option<u32>, is_bare: bool) -> ExitCode {
+    let fault = RestoreFault::ChainBroken(CopyId(copy.unwrap_or(0)));
+    let _ = rt.eprintln(&fault);
+    let folder = Escaped(folder);
+    let _ = match copy {
+        Some(id) => eprintln!(rt;
+            "imgcopy: {folder}: copy {id} is not there, or lacks one that it stands on"
+        ),
+        None => {
+            let what = if is_bare {
+                "there is no copy"
+            } else {
+                "no copy is whole"
+            };
+            eprintln!(rt;
+                "imgcopy: {folder}: {what}: imgcopy redo < {folder}/log makes the volume of the log alone"
+            )
+        }
+    };
+    ExitCode::from(restore_status(&fault))
+}
+
+/// The copies of a chain, the newest one first, as they are told.
+#[derive(Clone, Copy)]
+struct Copies<'a>(&'a [u32]);
+
+impl fmt::Display for Copies<'_> {
+    fn fmt<W: fmt::Write>(&self, f: &mut fmt::Formatter<W>) -> fmt::Result {
+        let mut before = "";
+        for id in self.0 {
+            write!(f, "{before}copy {id}")?;
+            before = ", on ";
+        }
+        Ok(())
+    }
+}
