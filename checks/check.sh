@@ -295,6 +295,11 @@ check_refused Open FOLDER "$open" open -h
 restore='Usage: imgcopy restore'
 check_refused "error: " "<MASTER>" "$restore" restore log
 check_refused Write ARCHIVE "$restore" restore -h
+check_refused Write "--copy" "<FOLDER>" restore --help
+check_refused "error: " "--copy <N>" --help restore folder --copy=0
+check_refused "error: " "--copy <N>" --help restore folder --copy
+check_refused "error: " "<FOLDER>" "$restore" restore --copy=1
+check_refused "error: " "'master'" "$restore" restore log master --copy=1
 audit='Usage: imgcopy audit'
 check_refused "error: " "<LOG>" "$audit" audit
 check_refused "error: " "'--log'" "$audit" audit --log=log

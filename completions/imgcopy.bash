@@ -10,7 +10,7 @@ _imgcopy() {
         return
     fi
     case $before in
-        --pages | --frames | --on | --from | --to | --txn | --page | --until) return ;;
+        --pages | --frames | --on | --copy | --from | --to | --txn | --page | --until) return ;;
         --save | --into) compopt -o filenames; COMPREPLY=($(compgen -d -- "$word")); return ;;
         -o | --output | --log-out | --master | --manifest) compopt -o filenames; COMPREPLY=($(compgen -f -- "$word")); return ;;
     esac
@@ -19,7 +19,7 @@ _imgcopy() {
         run) options="--pages --frames --save --force --strict --help" ;;
         open) options="--pages --frames --salvage --strict --help" ;;
         backup) options="--on --full --into --help" ;;
-        restore) options="-o --output --log-out --force --until --manifest --no-manifest --help" ;;
+        restore) options="--copy -o --output --log-out --force --until --manifest --no-manifest --help" ;;
         audit) options="--all --master --until --manifest --no-manifest --help" ;;
         verify) options="--manifest --no-manifest --help" ;;
         renew) options="--help" ;;

@@ -16,6 +16,7 @@ complete -c imgcopy -n __fish_use_subcommand -s h -l help -d 'The list of comman
 complete -c imgcopy -n __fish_use_subcommand -s V -l version -d 'The version'
 complete -c imgcopy -n '__fish_seen_subcommand_from help' -a 'redo run open backup restore audit verify show list renew'
 complete -c imgcopy -n '__fish_seen_subcommand_from redo restore' -s o -l output -r -F -d 'The file of the volume'
+complete -c imgcopy -n '__fish_seen_subcommand_from restore' -l copy -x -d 'The copy of a folder'
 complete -c imgcopy -n '__fish_seen_subcommand_from restore' -l log-out -r -F -d 'The file of the log'
 complete -c imgcopy -n '__fish_seen_subcommand_from restore audit show' -F
 complete -c imgcopy -n '__fish_seen_subcommand_from run open' -l pages -x -d 'How many pages'
