@@ -1,6 +1,6 @@
 //! The log in a file, and the device that has it.
 
-ghost use Rattle.std.specs.Prelude.{◌≡◌, ◌<◌, drop, take, Err, IfErr, IfOk, OnErr, OnOk};
+ghost use Rattle.std.specs.Prelude.{◌≡◌, ◌<◌, false, drop, take, Err, IfErr, IfOk, OnErr, OnOk};
 ghost use Rattle.file_devices.specs.FileLog.{KeepFails, bytes_of};
 ghost use Rattle.log_front.specs.Front.{IsFrontOf, end_of};
 ghost use Rattle.log_records.specs.Log.{log_bytes};
@@ -54,6 +54,8 @@ impl FoundLog {
         ensures lasting { OnOk result (LastsOnFile self.new.front.log self.new.device) }
         ensures alone { OnOk result
             (bytes_of self.new.device ≡ log_bytes self.new.front.log) }
+        // What the file gave is taken at its word no longer.
+        ensures written { OnOk result (self.new.device.is_read ≡ false) }
         ensures calls { OnOk result
             (KeepsFront (log_bytes self.old.front.log)
             self.old.device.calls self.new.device.calls) }

@@ -202,8 +202,10 @@ impl<D: Disk + Drop> FileLog<D> {
         disk.into_disk()
     }
 
-    /// A law: each content that a crash may leave at this moment begins with the bytes that last.
+    /// A law: each content that a crash may leave at this moment begins with the bytes that last, and
+    /// these are as many as the device counts.
     pub fn lasting_bytes_are_left(&self)
+        ensures counted { length (synced_of self.now) ≡ self.now.end }
         ensures left { IsTrusted D.is_clean self.now
             → BeginsEach (synced_of self.now) (D.may_leave self.now.disk) }
     {

@@ -188,12 +188,13 @@ module _ {D : Type 0} (may_leave : D → List ℕ → Type 0) (is_clean : D → 
   -- it begins with each forced record, if a front has what a device keeps
   pub read_has_forced : (s : EngineState) (front : Log) → it.log ≡ log_of s → it.forced_end ≡ s.forced_end
       → IsWritten bytes_of it → it.forced_end ≤ it.device.end → IsLinked it.log.records
+      → length (synced_of it.device) ≡ it.device.end
       → (IsTrusted is_clean it.device → BeginsEach (synced_of it.device) (may_leave it.device.disk))
       → ((count : ℕ) (left : List ℕ) (log : Log) → AreForced bytes_of it count → IsLinked it.log.records
       → take it.forced_end left ≡ take it.forced_end (bytes_of it.device) → IsLongestFront left log
       → first_records count it.log ≡ first_records count log)
       → MayBeRead may_leave is_clean it.device front → HasForced s front
-  read_has_forced s front same end written lasts linked begins fronts read =
+  read_has_forced s front same end written lasts linked counted begins fronts read =
       let count = written.forced.0 in
       let forced = written.forced.1 in
       record {
@@ -201,7 +202,7 @@ module _ {D : Type 0} (may_leave : D → List ℕ → Type 0) (is_clean : D → 
         there = subst (λ (l : Log). count ≤ length l.records) same forced.there;
         end = sym end ∙ forced.end;
         same = sym (fronts count read.content front forced linked
-            (forced_bytes it.device read.content it.forced_end read.counted lasts
+            (forced_bytes it.device read.content it.forced_end counted lasts
             (begins read.trusted read.content read.left))
             read.front)
             ∙ ap (first_records count) same;
@@ -211,12 +212,14 @@ module _ {D : Type 0} (may_leave : D → List ℕ → Type 0) (is_clean : D → 
   pub engine_has_forced : (device seen : LogOnDisk D) (s : EngineState) (front : Log) → it.log ≡ log_of s
       → it.forced_end ≡ s.forced_end → it.device ≡ device → seen ≡ it.device → IsWritten bytes_of it
       → it.forced_end ≤ it.device.end → IsLinked s.log
+      → length (synced_of seen) ≡ seen.end
       → (IsTrusted is_clean seen → BeginsEach (synced_of seen) (may_leave seen.disk))
       → ((count : ℕ) (left : List ℕ) (log : Log) → AreForced bytes_of it count → IsLinked it.log.records
       → take it.forced_end left ≡ take it.forced_end (bytes_of it.device) → IsLongestFront left log
       → first_records count it.log ≡ first_records count log)
       → MayBeRead may_leave is_clean device front → HasForced s front
-  engine_has_forced device seen s front same end on here written lasts linked begins fronts read =
+  engine_has_forced device seen s front same end on here written lasts linked counted begins fronts read =
       read_has_forced s front same end written lasts (subst (λ (l : Log). IsLinked l.records) (sym same) linked)
+      (subst (λ (d : LogOnDisk D). length (synced_of d) ≡ d.end) here counted)
       (subst (λ (d : LogOnDisk D). IsTrusted is_clean d → BeginsEach (synced_of d) (may_leave d.disk)) here begins) fronts
       (subst (λ (d : LogOnDisk D). MayBeRead may_leave is_clean d front) (sym on) read)

@@ -6,7 +6,7 @@ use Rattle.log_records.specs.declared.record.Record.{Record}
 use Rattle.log_rules.specs.Transactions.{is_open}
 use Rattle.log_store.specs.WrittenLog.{first_records}
 use Rattle.log_front.specs.Front.{IsLongestFront}
-use Rattle.file_devices.specs.FileLog.{IsTrusted, LogOnDisk, synced_of}
+use Rattle.file_devices.specs.FileLog.{IsTrusted, LogOnDisk}
 use Rattle.engine_calls.specs.EventFits.{EventFits}
 use Rattle.engine_rules.specs.AnsweredCommits.{AnsweredCommit, StandsIn}
 use Rattle.engine_rules.specs.EngineState.{EngineState, log_of, new_state}
@@ -15,12 +15,10 @@ use Rattle.engine_restart.specs.Lives.{GoesOnFrom, Life}
 use Rattle.engine_restart.specs.Restart.{undone_log}
 
 -- a crash at this moment may leave a content of a log's disk of which this log is the longest front.
--- What the disk gave when it was opened was right, or was stored again since; and as many bytes were
--- synced as the device counts, which the invariant of a `FileLog` says of it
+-- What the disk gave when it was opened was right, or was stored again since
 pub record MayBeRead {D : Type 0} (may_leave : D → List ℕ → Type 0) (is_clean : D → Bool)
     (device : LogOnDisk D) (log : Log) : Type 0 where
   pub trusted : IsTrusted is_clean device
-  pub counted : length (synced_of device) ≡ device.end
   pub content : List ℕ
   pub left : may_leave device.disk content
   pub front : IsLongestFront content log

@@ -15,7 +15,8 @@ returns g c =
     let has : (front : Log) → MayBeRead g.D.Disk.may_leave g.D.Disk.is_clean engine.device front → HasForced s front =
     λ front read. engine_has_forced g.D.Disk.may_leave g.D.Disk.is_clean _ engine.device _ s front
     c.log.ensures.log c.log.ensures.forced_end c.log.ensures.device c.device.ensures.device c.device.ensures.kept
-    c.device.ensures.lasts fit.linked c.lasting_bytes_are_left.ensures.left (c.fronts_have_what_a_device_keeps.ensures _) read in
+    c.device.ensures.lasts fit.linked c.lasting_bytes_are_left.ensures.counted
+    c.lasting_bytes_are_left.ensures.left (c.fronts_have_what_a_device_keeps.ensures _) read in
     record {
       forced = has;
       commits = λ began events replies front fit_began run read. λ k d lt.
