@@ -78,7 +78,7 @@ def backups(folders):
     folder = folders.made("shop", FIRST)
     done = folders.run("backup", folder)
     answers = done.stdout.decode().splitlines()
-    folders.wants("a first backup", done.returncode == 0 and answers[-1] == f"sealed {PAGES}"
+    folders.wants("a first backup", done.returncode == 0 and answers[-1] == f"copy 1 pages {PAGES} taken {PAGES}"
                   and answers[-2].startswith("point "), done)
     folders.wants("its numbers", restored(folders, folder, "copy-1") == {(0, 0): 5, (2, 61): NUMBERS[2, 61]}, done)
     folders.run("open", folder, lines=SECOND)
@@ -86,16 +86,22 @@ def backups(folders):
     away.mkdir()
     done = folders.run("backup", folder, "--into", away)
     folders.wants("a second backup", done.returncode == 0, done)
-    folders.wants("the second folder", sorted(sums_of(away)) == ["copy-1", "copy-2", "log", "master"], done)
-    folders.wants("its files", all(sums_of(folder)[name] == it for name, it in sums_of(away).items()), done)
+    folders.wants("the second folder", sorted(sums_of(away)) == ["copy-1", "copy-2", "log", "manifest", "master"], done)
+    there, here = sums_of(folder), sums_of(away)
+    folders.wants("its files", all(there[name] == it for name, it in here.items() if name != "manifest"), done)
+    lines = [set((it / "manifest").read_text().splitlines()) for it in (folder, away)]
+    folders.wants("its manifest", lines[0] == lines[1], done)
     folders.wants("its numbers", restored(folders, away, "copy-1", "copy-2") == NUMBERS, done)
     done = folders.run("backup", folder, "--full")
     folders.wants("a full backup", done.returncode == 0 and restored(folders, folder, "copy-3") == NUMBERS, done)
     done = folders.run("backup", folder, "--on", "1", "--into", away)
     folders.wants("a backup on a copy", restored(folders, away, "copy-1", "copy-4") == NUMBERS, done)
     done = folders.run("verify", folder)
-    wanted = b"copy 1 sound\ncopy 2 sound\ncopy 3 sound\ncopy 4 sound\n"
-    folders.wants("copies are verified", done.returncode == 0 and done.stdout == wanted, done)
+    wanted = [f"{name} sound" for name in ("copy-1", "copy-2", "copy-3", "copy-4", "log", "master")]
+    copies = [f"copy {number} sound" for number in range(1, 5)]
+    told = done.stdout.decode().splitlines()
+    folders.wants("files and copies are verified",
+                  done.returncode == 0 and sorted(told[:-4]) == wanted and told[-4:] == copies, done)
     return folder, away
 
 

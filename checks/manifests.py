@@ -8,10 +8,16 @@ is flipped in each byte of each file, a file of the other day takes the place of
 record, and it grows: nothing but a grown log may give a volume, and no audit may call another file sound. A manifest is cut,
 flipped, emptied, and taken from the other day. A smaller folder, whose files and manifest the model makes, has each bit of
 each file flipped; its manifest stands beside the files, or elsewhere and is told by --manifest. With STEP, 1 where none is
-told, each STEP-th byte or bit is flipped, and the manifest is cut at each STEP-th byte. Then `list` and `verify` are asked of changed files, and all four commands are
-given --no-manifest, and both options at once.
+told, each STEP-th byte or bit is flipped, and the manifest is cut at each STEP-th byte. Then
+`list` and `verify` are asked of changed files, and all four commands are given --no-manifest, and both options at once.
+
+`open` keeps a manifest: behind a clean closing it is that of hashlib but for the order of its lines, and `sha256sum -c`
+accepts it. Each bit of the log is flipped, or each STEP-th one, and the log is cut at each record below the bytes that are
+named: it is not opened and nothing is touched, but by --salvage, which keeps the name of the database. Above them it is
+opened. A manifest that is cut or empty is refused, and one of another database is told as other bytes.
 """
 
+import hashlib
 import os
 import re
 import shutil
@@ -333,6 +339,107 @@ def check_again(folder, files, others, script):
     folder.fill(files)
 
 
+LIFE = b"begin\nset 1 0 0 500\ncommit 1\ncheckpoint\nfull\ntake 1 0\nseal 1\n"
+GROWTH = b"begin\nset 2 0 1 7\ncommit 2\nbegin\nset 3 0 2 9\ncommit 3\n"
+
+
+def database(folder, lines):
+    """The files of a database behind a clean closing."""
+    folder.fill({})
+    done = folder.run("open", "--pages", "1", ".", data=lines)
+    if done.returncode or done.stderr:
+        raise Failure(f"open: status {done.returncode}, {done.stderr[:200]!r}")
+    return all_of(folder)
+
+
+def all_of(folder):
+    return {path.name: path.read_bytes() for path in folder.place.iterdir()}
+
+
+def is_refused(folder, what, told):
+    before = all_of(folder)
+    done = folder.run("open", ".")
+    if done.returncode != 2 or done.stdout or told.encode() not in done.stderr or all_of(folder) != before:
+        raise Failure(f"{what}: open ends with status {done.returncode}, {done.stderr[:300]!r}")
+    folder.counts["not opened"] += 1
+
+
+def is_salvaged(folder, what, head):
+    done = folder.run("open", ".", "--salvage")
+    after = all_of(folder)
+    if done.returncode or "manifest.refused" not in after or head_of(after["manifest"]) != head:
+        raise Failure(f"{what}: --salvage ends with status {done.returncode}, {done.stderr[:300]!r}")
+    folder.counts["salvaged"] += 1
+
+
+def check_kept(folder):
+    """What a closing leaves, and what a next life keeps of it."""
+    files = database(folder, LIFE)
+    head = head_of(files["manifest"])
+    wanted = manifest_of({name: files.get(name, b"") for name in FILES}, head).splitlines()
+    wanted = [line for line in wanted if hashlib.sha256(b"").hexdigest().encode() not in line and line != b"# whole 0"]
+    if sorted(files["manifest"].splitlines()) != sorted(wanted):
+        raise Failure(f"open leaves the manifest {files['manifest']!r}")
+    summed = subprocess.run(["sha256sum", "-c", "--strict", "manifest"], cwd=folder.place, capture_output=True, check=False)
+    if summed.returncode:
+        raise Failure(f"sha256sum -c: status {summed.returncode}, {summed.stdout!r}, {summed.stderr!r}")
+    done = folder.run("open", ".", data=b"read 0 0\n")
+    if done.returncode or done.stderr or all_of(folder) != files:
+        raise Failure(f"a life that reads: status {done.returncode}, {done.stderr[:200]!r}, or it leaves other files")
+    done = folder.run("open", ".", data=GROWTH)
+    grown = all_of(folder)
+    if done.returncode or done.stderr or head_of(grown["manifest"]) != head:
+        raise Failure(f"a second life: status {done.returncode}, {done.stderr[:200]!r}, and another name")
+    return files, grown
+
+
+def check_opened(folder, step):
+    files, grown = check_kept(folder)
+    head, log = head_of(files["manifest"]), files["log"]
+    for bit in range(0, 8 * len(log), step):
+        changed = bytearray(log)
+        changed[bit // 8] ^= 1 << bit % 8
+        folder.fill({**files, "log": changed})
+        what = f"bit {bit} of the log is flipped"
+        is_refused(folder, what, "imgcopy: ./log: " if bit < 8 * RECORD else "imgcopy: .: `manifest` ")
+        if bit >= 8 * RECORD:
+            is_salvaged(folder, what, head)
+    longer = grown["log"]
+    for end in range(2 * RECORD, len(longer) + 1, RECORD):
+        folder.fill({name: data for name, data in files.items() if name not in ("closed", "master", "copy-1")})
+        folder.put("log", longer[:end])
+        if end < len(log):
+            is_refused(folder, f"the log ends at {end}", f"`manifest` says that the log was forced to {len(log)}")
+            continue
+        done = folder.run("open", ".")
+        if done.returncode or head_of(all_of(folder)["manifest"]) != head:
+            raise Failure(f"the log has grown to {end}: status {done.returncode}, {done.stderr[:300]!r}")
+        folder.counts["opened"] += 1
+    check_other_manifests(folder, files)
+
+
+def check_other_manifests(folder, files):
+    manifest, bad = files["manifest"], "E33 ReadFault\nimgcopy: ./manifest: line "
+    for cut in range(len(manifest)):
+        lines = manifest[:cut].splitlines(True)
+        if not lines or lines[-1][-1:] != b"\n" or lines[-1].startswith(b"# whole"):
+            folder.fill({**files, "manifest": manifest[:cut]})
+            is_refused(folder, f"the manifest is cut at {cut}", bad)
+    other = database(folder, LIFE.replace(b"500", b"501"))
+    folder.fill({**files, "manifest": other["manifest"]})
+    is_refused(folder, "the manifest is of another database", "`manifest` has another sum of the bytes of the log before")
+    folder.fill({"manifest": manifest})
+    is_refused(folder, "there is a manifest, and no log", "imgcopy: ./manifest: this is there, but no log")
+    folder.fill({name: data for name, data in files.items() if name != "manifest"})
+    done = folder.run("open", ".")
+    if done.returncode or head_of(all_of(folder)["manifest"]) == head_of(manifest):
+        raise Failure(f"the manifest is moved away: status {done.returncode}, {done.stderr[:300]!r}")
+    folder.fill({name: data for name, data in files.items() if name != "copy-1"})
+    done = folder.run("open", ".")
+    if done.returncode or done.stderr != b"imgcopy: ./manifest: the line of `copy-1` is dropped\n":
+        raise Failure(f"a copy is gone: status {done.returncode}, {done.stderr[:300]!r}")
+
+
 # Each bit of a small folder
 
 def refuses(program, place, options, name, data, at):
@@ -408,6 +515,7 @@ def main(arguments):
             check_verify(folder, files, others)
             check_again(folder, files, others, script)
             check_flips(folder, files, step)
+            check_opened(folder, step)
             check_bits(folder, program, step)
     except (Failure, WrongManifest, OSError, subprocess.SubprocessError) as failure:
         print(f"FAILED manifests: {failure}")

@@ -176,7 +176,7 @@ def check_copies(program):
     script = b"begin\nset 1 0 0 5\ncommit 1\nwbegin 0\nwend 0\n" + CHECKPOINT + FULL_COPY
     done = program.run(base, "--pages", "2", data=script)
     files = contents(base)
-    if done.returncode != 0 or done.stderr or sorted(files) != ["closed", "copy-1", "log", "master", "volume"]:
+    if done.returncode != 0 or done.stderr or sorted(files) != ["closed", "copy-1", "log", "manifest", "master", "volume"]:
         raise Failure(f"a database with a copy: {done!r:.300}")
     log, copy, begin = files["log"], files["copy-1"], 256
     other = bytearray(copy)
@@ -225,11 +225,11 @@ def check_copies(program):
     if not all(os.path.lexists(folder / f"copy-{number}") for number in (1, 2, 3)):
         raise Failure("a copy that cannot be read has another name")
     folder = program.folder(log=log, copy_1=copy)
-    for name in ("copy-2.unfinished-1", "master.unfinished-7", "closed.unfinished-1", "log.left-out-2.unfinished-1",
-                 "copy-1.unfinished", "log.unfinished-1"):
+    for name in ("copy-2.unfinished-1", "master.unfinished-7", "closed.unfinished-1", "manifest.unfinished-1",
+                 "log.left-out-2.unfinished-1", "copy-1.unfinished", "log.unfinished-1"):
         (folder / name).touch()
     program.check("unfinished files", program.run(folder), 0, line)
-    left = ["closed", "copy-1", "copy-1.unfinished", "log", "log.unfinished-1", "master", "volume"]
+    left = ["closed", "copy-1", "copy-1.unfinished", "log", "log.unfinished-1", "manifest", "master", "volume"]
     if sorted(contents(folder)) != left:
         raise Failure(f"unfinished files: {sorted(contents(folder))}")
     check_unwritten(program, log, copy)

@@ -68,7 +68,10 @@ def check_left(life, owed, files):
         if files.copies.get(number) != data or number in again.refused:
             raise Failure(f"copy {number} was told, and it is not there, or not sound")
     for number in again.refused:
-        if files.copies[number] != life.before.copies.get(number):
+        # A salvage that was cut short may have given it another name, which is not stored.
+        older = [data for name, data in life.before.all.items()
+                 if name == f"copy-{number}" or name.startswith(f"copy-{number}.refused")]
+        if files.copies[number] not in older:
             raise Failure(f"copy {number} is in place, and is not sound: {again.refused[number]}")
     check_aside(owed, files)
     if owed.point:

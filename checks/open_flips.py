@@ -4,8 +4,8 @@ usage: python3 -m checks.open_flips IMGCOPY [STEP [SEED]]
 
 Two databases have a log of some 40 records, a master record, and a full and an incremental copy. One was killed with a
 transaction open, the other was closed. In each byte, or in one of each STEP, a bit is flipped, which is drawn by SEED:
-of the log, of the master record, of the copies and of what a closing noted. The log is also cut off at each record and
-at places between, and each file is removed. Then the folder is opened:
+of the log, of the master record, of the copies and of what a closing noted (manifests.py flips those of the manifest).
+The log is also cut off at each record and at places between, and each file is removed. Then the folder is opened:
 
 - It is refused where the model says that something forced is missing, and then all files are as they were. Else it
   opens.
@@ -77,7 +77,7 @@ class Maker(Program):
 def cases_of(way, files, step, draw):
     """A bit flipped in one byte of each so many, the log cut off, and each file removed."""
     for name, data in files.items():
-        if name == "volume":
+        if name in ("volume", "manifest"):
             continue
         for at in range(draw.randrange(min(step, len(data))), len(data), step):
             bit = draw.randrange(8)

@@ -21,7 +21,8 @@ class Files:
 
     def __init__(self, files):
         self.all = files
-        self.log, self.master, self.volume, self.closed = map(self.all.get, ("log", "master", "volume", "closed"))
+        self.log, self.master, self.volume, self.closed, self.manifest = map(
+            self.all.get, ("log", "master", "volume", "closed", "manifest"))
         self.copies = {int(name[5:]): data for name, data in self.all.items()
                        if name.startswith("copy-") and name[5:].isdigit()}
 
@@ -31,7 +32,7 @@ class Files:
 
     def losses(self):
         """What shows that the log lacks records that were forced."""
-        return losses(self.log, self.closed, self.master, self.copies)
+        return losses(self.log, self.closed, self.manifest, self.master, self.copies)
 
     def told_losses(self, folder):
         """The lines that tell this on standard error, without their beginning."""

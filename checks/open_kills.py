@@ -24,6 +24,7 @@ given what stands in the folder, and then:
   made before a loss.
 """
 
+import hashlib
 import os
 import random
 import re
@@ -43,7 +44,7 @@ from checks.open_folders import (MOST_SECONDS, Files, Judge, Told, check_point, 
                                  with_first_pages)
 from checks.open_spoils import spoil
 from model.engine import MOST_FRAMES, Engine
-from model.lives import closed_note, has_log, is_headless, is_master_of, is_worth_keeping, line_of_new, reopen
+from model.lives import closed_note, has_log, is_headless, is_master_of, is_worth_keeping, line_of_new, lines_of, reopen
 from model.log_format import HEADER_SIZE, encode_header, lsn_of
 from model.random_scripts import take_turns
 from model.recovery import encode_log, encode_pages
@@ -119,6 +120,10 @@ class Life:
                 self.left_out = before.left_out()
                 self.said.append(f"{self.folder}/log: they are now {self.left_out}")
         self.said += [f"{self.folder}/copy-{number}: {why}" for number, why in again.refused.items()]
+        unused = {f"copy-{number}" for number in again.refused}
+        self.said += [f"{self.folder}/manifest: the line of `{name}` is dropped"
+                      for name, _, _ in lines_of(before.manifest or b"")
+                      if "manifest" not in self.moved and (name in unused or name not in before.all or name in self.moved)]
         if before.master is not None and not is_master_of(before.master, again.front.records):
             self.master_aside = before.aside("master")
 
@@ -247,6 +252,7 @@ class Life:
         self.check_copies(after, told)
         self.check_master(after, told)
         self.check_closed(after, told, kind)
+        self.check_manifest(after, kind)
         return after, told
 
     def check_end(self, answers, status, said):
@@ -285,12 +291,12 @@ class Life:
 
     def check_names(self, after, told):
         """What was put aside before is there as it was, and no file is there that no one needs."""
-        put = {"log", "volume", "master", "closed", self.left_out, self.master_aside, *self.copies_aside.values(),
+        put = {"log", "volume", "master", "closed", "manifest", self.left_out, self.master_aside, *self.copies_aside.values(),
                *self.moved.values(), *(f"copy-{number}" for number in self.sealed([*self.answers]))}
         for name in after.all.keys() - self.before.all.keys() - put:
             if not is_unfinished(name):
                 raise Failure(f"{name} is there")
-        own = {"log", "volume", "master", "closed", *(f"copy-{number}" for number in self.before.copies)}
+        own = {"log", "volume", "master", "closed", "manifest", *(f"copy-{number}" for number in self.before.copies)}
         for name in self.before.all.keys() - own:
             if not is_unfinished(name) and after.all.get(name, b"") != self.before.all[name]:
                 raise Failure(f"{name} is another one, or gone")
@@ -330,6 +336,27 @@ class Life:
             ends.append(self.had_master[1])
         if ends:
             check_point(after.master, self.engine.log, max(ends))
+
+    def check_manifest(self, after, kind):
+        """Each line is that of a file of this life, but for the master record where the log has grown since. Behind the
+        end of a life all of the log is named. The database keeps its name, but for one that is drawn."""
+        if after.manifest is None:
+            if self.before.manifest is not None and "manifest" not in self.moved:
+                raise Failure("the manifest is gone")
+            return
+        heads = [data.splitlines()[0] for data in (self.before.manifest, after.manifest) if data]
+        if len({*heads}) != 1:
+            raise Failure(f"the manifest begins with {heads}")
+        lines = lines_of(after.manifest)
+        named = [count for name, count, _ in lines if name == "log"]
+        if kind == AT_ITS_END and named != [len(after.log)]:
+            raise Failure(f"the manifest names {named} bytes of the log, and it has {len(after.log)}")
+        for name, count, digest in lines:
+            data = after.all.get(name)
+            is_right = data is not None and len(data[:count]) == count and \
+                hashlib.sha256(data[:count]).hexdigest() == digest
+            if not is_right and not (name == "master" and max(named, default=0) < len(after.log)):
+                raise Failure(f"the manifest says {(name, count, digest)}")
 
     def check_closed(self, after, told, kind):
         """The note, and the volume as it is then."""

@@ -13,7 +13,7 @@ from checks.bank_calls import FOLDER, Disk, entries_after
 from checks.open_folders import Told
 from checks.unsaved import text_of
 from model.engine import Engine
-from model.lives import front_of, has_log, is_headless, is_worth_keeping, line_of_new, losses, reopen
+from model.lives import front_of, has_log, is_headless, is_worth_keeping, line_of_new, reopen
 from model.log_format import RECORD_SIZE, lsn_of
 from model.random_scripts import take_turns
 from model.recovery import encode_log
@@ -160,8 +160,7 @@ class Life:
         if not self.is_salvage:
             return owed._replace(tails=tails)
         # A salvage gives another name to a copy that knows of more than the log has, be it sound once undo is redone.
-        known = {loss.file for loss in losses(self.before.log, None, None, self.before.copies)}
-        lost = {number for number in self.before.copies if number in again.refused or f"copy-{number}" in known}
+        lost = set(again.refused)
         refused = tuple(data for number, data in self.before.copies.items() if number in lost)
         copies_left = {number: data for number, data in owed.copies.items() if number not in lost}
         return Owed(self.before.log[:end], copies_left, owed.refused + refused, 0, tails)

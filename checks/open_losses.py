@@ -65,7 +65,7 @@ WITNESSED = ["begin", "set 1 0 0 500", "set 1 1 0 300", "commit 1", "ckpt", "gat
              "full", "begin", "add 2 0 0 5", "wbegin 0", "wend 0", "take 1 0", "take 1 1", "take 1 2", "seal 1", "begin"]
 END, LAST_FORCED = 704, 448
 # By the file that knows of the log's end: the least place where the front may end.
-WITNESSES = {"closed": END, "master": LAST_FORCED + RECORD_SIZE, "copy-1": 576 + RECORD_SIZE, None: HEADER_SIZE}
+WITNESSES = {"closed": END, "manifest": END, "master": LAST_FORCED + RECORD_SIZE, "copy-1": 576 + RECORD_SIZE, None: HEADER_SIZE}
 
 
 class Database(Program):

@@ -3,8 +3,11 @@
 usage: python3 -m checks.open_words PROGRAM
 
 A flush answers how many writes have ended. A checkpoint writes the dirty pages first, so that its redo point is its own
-begin, and its master record is there once it is answered; where one is open, the refusal is that of the call. A line with
-more behind a word is a bad line, `quit` ends the input as its end does, `status` tells what there is, and `help` has a line for each word and call.
+begin, and its master record is there once it is answered; where one is open, the refusal is that of the call. A copy is
+made by one word, of which the files alone restore the volume; it makes a checkpoint unless the last one is new, it is
+refused as the call that was refused, and a page that cannot be read is repaired from the newest copy. A line with more
+behind a word is a bad line, `quit` ends the input as its end does, `status` tells what there is, and `help` has a line
+for each word and call.
 With `--strict` a word that is refused counts as a call does. At a terminal, and only there, a prompt stands before each
 line.
 """
@@ -24,7 +27,7 @@ MADE = ["begin", "set 1 0 0 5", "set 1 1 0 6", "commit 1"]
 ANSWERS = ["began 1 at 64", "lsn 128", "lsn 192", "lsn 256"]
 CALLS = ["begin", "set", "add", "read", "save", "undoto", "commit", "abort", "undo", "force", "extend", "wbegin", "wend",
          "ckpt", "gather", "endckpt", "full", "inc", "take", "seal", "drop", "repair"]
-WORDS = ["checkpoint", "flush", "status", "help", "quit"]
+WORDS = ["checkpoint", "copy", "copy", "flush", "status", "help", "quit"]
 
 
 class Words:
@@ -69,6 +72,70 @@ def checkpoints(words):
     words.wants("a checkpoint while one is open", answers[-2:] == ["E13 CkptOpen", "more"], done)
     _, done, answers = words.open(["begin", "checkpoint"])
     words.wants("a checkpoint beside a transaction", answers[-1] == "point 128 256 128", done)
+
+
+def copies(words):
+    folder, done, answers = words.open([*MADE, "copy", "copy", "begin", "set 2 1 0 7", "commit 2", "copy on 1", "status"])
+    wanted = [BEGUN, *ANSWERS, "copy 1 pages 2 taken 2", "copy 2 pages 2 taken 2", "began 2 at 448", "lsn 512", "lsn 576",
+              "copy 3 pages 2 taken 1"]
+    words.wants("copies", answers[:len(wanted)] == wanted and done.returncode == 0, done)
+    told = ["status point 640 704 640", "status copy 1 full pages 2 taken 2", "status copy 2 full pages 2 taken 2",
+            "status copy 3 on 1 pages 2 taken 1", "status end"]
+    words.wants("the checkpoints of copies", answers[-len(told):] == told, done)
+    (folder / "volume").unlink()
+    done = subprocess.run([words.program, "restore", "-o", words.place / "restored", folder / "log", folder / "master",
+                           folder / "copy-1", folder / "copy-3"], capture_output=True, timeout=MOST_SECONDS)
+    words.wants("a restore of its files", done.returncode == 0, done)
+    done = subprocess.run([words.program, "show", words.place / "restored"], capture_output=True, timeout=MOST_SECONDS)
+    numbers = [line.split()[4:] for line in done.stdout.decode().splitlines()[1:]]
+    words.wants("its numbers", numbers == [["0=5"], ["0=7"]], done)
+    audit = [words.program, "audit", "--master", folder / "master", folder / "log", folder / "copy-1", folder / "copy-3"]
+    done = subprocess.run(audit, capture_output=True, timeout=MOST_SECONDS)
+    words.wants("an audit of its files", done.stdout == b"sound\n" and done.returncode == 0, done)
+
+
+def copies_refused(words):
+    folder, done, answers = words.open([*MADE, "checkpoint", "copy on 9", "copy", "copy on 2", "status"])
+    refused = ["point 320 384 320", "E17 NoCopy", "copy 1 pages 2 taken 2", "E17 NoCopy"]
+    words.wants("a copy on none", answers[5:9] == refused and done.returncode == 0, done)
+    is_alone = [path.name for path in folder.glob("copy-*")] == ["copy-1"]
+    words.wants("a copy that is refused leaves nothing", is_alone, done)
+    _, done, answers = words.open([*MADE, "ckpt", "copy", "full"])
+    words.wants("a copy while a checkpoint is open", answers[-2:] == ["E13 CkptOpen", "E16 NoMaster"], done)
+    lines = ["copy now", "copy on", "copy on x", "copy 3", "copy on -1", "copy  on 1", "copy on 4294967296", " copy on 001 "]
+    _, done, answers = words.open(lines)
+    bad = [f"bad line {number}: this word is `copy` or `copy on N`, of a copy N" for number in range(1, 8)]
+    words.wants("lines that are no copies", answers == [BEGUN, *bad, "E17 NoCopy"], done)
+
+
+def a_page_that_cannot_be_read(words):
+    """Its bytes in the volume's file are other ones, while the database is open."""
+    folder, done, _ = words.open([])
+    words.wants("a new database", done.returncode == 0, done)
+    said, told = typed_around(words, folder, [*MADE, "copy"], ["copy"])
+    repaired = f"{folder}/volume: page 1 could not be read, and was repaired from `copy-1`\n"
+    words.wants("a page is repaired", said == ["copy 2 pages 2 taken 2"] and repaired in told.stderr.decode(), told)
+    folder, done, _ = words.open([])
+    said, told = typed_around(words, folder, [*MADE, "checkpoint"], ["copy", "drop 1", "copy"])
+    words.wants("nothing to repair it from", said[:2] == ["E22 StoreFault", "E17 NoCopy"] and len(said) == 3, told)
+    words.wants("no copy is left", not list(folder.glob("copy-*")), told)
+
+
+def typed_around(words, folder, before, behind):
+    """What is answered behind a change of page 1 in the volume's file."""
+    child = subprocess.Popen([words.program, "open", folder], stdin=subprocess.PIPE, stdout=subprocess.PIPE,
+                             stderr=subprocess.PIPE)
+    child.stdout.readline()
+    for line in before:
+        child.stdin.write(f"{line}\n".encode())
+        child.stdin.flush()
+        child.stdout.readline()
+    volume = folder / "volume"
+    with volume.open("r+b") as file:
+        file.seek(volume.stat().st_size * 3 // 4)
+        file.write(b"no page")
+    out, err = child.communicate("".join(f"{line}\n" for line in behind).encode(), timeout=MOST_SECONDS)
+    return out.decode().splitlines(), subprocess.CompletedProcess(child.args, child.returncode, out, err)
 
 
 def lines_that_are_no_words(words):
@@ -131,7 +198,8 @@ def main(arguments):
             raise Failure("usage: python3 -m checks.open_words PROGRAM")
         with tempfile.TemporaryDirectory() as place:
             words = Words(program_of(arguments[0]), Path(place))
-            for look in (pages_that_are_written, checkpoints, lines_that_are_no_words, the_end, status_lines, help_lines,
+            for look in (pages_that_are_written, checkpoints, copies, copies_refused, a_page_that_cannot_be_read,
+                         lines_that_are_no_words, the_end, status_lines, help_lines,
                          a_terminal):
                 look(words)
     except (Failure, OSError, subprocess.SubprocessError) as failure:

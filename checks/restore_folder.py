@@ -21,7 +21,6 @@ MOST_SECONDS = 120
 PAGES = 3
 TAKEN = {4: "copy 4", 3: "copy 3, on copy 2, on copy 1", 2: "copy 2, on copy 1", 1: "copy 1"}
 OTHER = "is not the file that the manifest names"
-BARE = "imgcopy: no manifest stands beside the files: they are not compared"
 
 
 class Restorer:
@@ -49,7 +48,7 @@ class Restorer:
         """The folder's restore takes this copy, behind lines that begin so."""
         wanted = self.long_form(copy)
         done = self.run("restore", *words, "shop")
-        lines = [line for line in done.stderr.decode().splitlines() if line != BARE]
+        lines = done.stderr.decode().splitlines()
         is_told = lines[-1:] == [f"imgcopy: shop: restored from {TAKEN[copy]}"] and all(
             any(line.startswith(it) for line in lines[:-1]) for it in before) and bool(before) == bool(lines[:-1])
         self.wants(what, done.returncode == 0 and done.stdout == wanted.stdout and is_told, done)
@@ -154,17 +153,21 @@ def broken(restorer):
 def logs(restorer):
     """What is wrong with the log, or with both, is final."""
     back = restorer.spoiled("log", lambda data: data[:-1])
-    restorer.refused("a torn log", 2, "shop", told=["Torn", "imgcopy: shop/log (log)"])
+    restorer.refused("a torn log", 2, "--no-manifest", "shop", told=["Torn", "imgcopy: shop/log (log)"])
+    restorer.refused("a torn log beside its manifest", 2, "shop", told=["imgcopy: shop/log (log): " + OTHER])
     back()
     end = len((restorer.folder / "log").read_bytes())
     back = restorer.spoiled("log", lambda data: data[:end // 128 * 64])
-    wanted = restorer.long_form(4)
-    restorer.refused("a log that was cut", wanted.returncode, "shop", told=[wanted.stderr.decode().splitlines()[0]])
+    wanted = restorer.long_form(4, "--no-manifest")
+    restorer.refused("a log that was cut", wanted.returncode, "--no-manifest", "shop",
+                     told=[wanted.stderr.decode().splitlines()[0]])
+    restorer.refused("a log that was cut beside its manifest", 2, "shop", told=["imgcopy: shop/log (log): " + OTHER])
     back()
 
 
 def named(restorer):
     """A manifest names the log and another newest copy."""
+    kept = (restorer.folder / "manifest").read_bytes()
     names = ["log", "master", "copy-1", "copy-2", "copy-3", "copy-4"]
     text = f"# imgcopy manifest 1 database {'0' * 32}\n"
     for name in names:
@@ -178,7 +181,7 @@ def named(restorer):
     restorer.takes("a manifest names another copy", 3, before=["E33 ReadFault", "imgcopy: shop/copy-4 (image copy): " + OTHER])
     restorer.refused("the other copy", 2, "--copy", "4", "shop", told=[OTHER])
     back()
-    (restorer.folder / "manifest").unlink()
+    (restorer.folder / "manifest").write_bytes(kept)
 
 
 def usage(restorer):

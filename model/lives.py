@@ -6,6 +6,8 @@ something shows that the log was forced beyond that, the file is damaged, and th
 open there is taken back by records behind it. Then the engine goes on as if every page had just been stored.
 """
 
+import hashlib
+import re
 from typing import NamedTuple
 
 from model.engine import MOST_FRAMES, Checkpoint, Engine
@@ -122,13 +124,30 @@ def forced_behind(data, end):
     return None
 
 
-def losses(data, closed, master, copies):
-    """What shows that the front of a log lacks records that were forced: nothing where none shows it. The note and the
-    master record may be None, as may each copy that is no file."""
+def log_line(manifest):
+    """How many of a log's first bytes a manifest names, and their sum, or None where it names none."""
+    found = re.search(rb"(?m)^# first ([0-9]+) ([0-9a-f]{64})  log$", manifest)
+    return (int(found[1]), found[2].decode()) if found else None
+
+
+def lines_of(manifest):
+    """The name, the count of bytes and the sum of each line of a manifest."""
+    found = re.findall(rb"(?m)^# (?:whole|first) ([0-9]+)[ \n]([0-9a-f]{64})  (.*)$", manifest)
+    return [(name.decode(), int(count), digest.decode()) for count, digest, name in found]
+
+
+def losses(data, closed, manifest, master, copies):
+    """What shows that the front of a log lacks records that were forced, or has other bytes: nothing where none shows
+    it. The note, the manifest and the master record may be None, as may each copy that is no file."""
     end, found = front_of(data).end(), []
     note = closed_at(closed) if closed is not None else None
     if note is not None and end < note:
         found.append(Loss(None, f"`closed` says that the log ended at {note}"))
+    line = log_line(manifest) if manifest is not None else None
+    if line is not None and end < line[0]:
+        found.append(Loss("manifest", f"`manifest` says that the log was forced to {line[0]}"))
+    elif line is not None and hashlib.sha256(data[:line[0]]).hexdigest() != line[1]:
+        found.append(Loss("manifest", f"`manifest` has another sum of the bytes of the log before {line[0]}"))
     named = master_in(master) if master is not None else None
     if named is not None and end <= named[1]:
         found.append(Loss("master", f"`master` names the end of a checkpoint at {named[1]}"))
@@ -216,6 +235,8 @@ def reopen(data, copies, frames=MOST_FRAMES):
     refused = {}
     for number, archive in sorted(copies.items()):
         try:
+            if losses_by("", archive, front.end()):
+                raise NotTaken("it knows of more than the log, and is not used")
             add_copy(engine, number, archive)
         except NotTaken as why:
             refused[number] = str(why)

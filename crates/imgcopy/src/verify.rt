@@ -2,7 +2,7 @@
 
 use crate::list::{header_of, ids_in, written};
 use crate::manifests::manifest_for;
-use checked_files::ManifestUse;
+use checked_files::{Known, ManifestUse, ReadFile, known_file};
 use copy_audit::{Sound, Unsound};
 use file_view::{CopyHeader, ViewFault};
 use manifest::{Extent, FileSum, Manifest, sum_rest};
@@ -25,6 +25,7 @@ const MOST_THREADS: usize = 16;
 /// A file that a manifest names, and whether it is that one, once it was summed.
 #[derive(Drop)]
 struct SummedFile {
+    name: String,
     place: String,
     file: FileSum,
     done: io::Result<bool>,
@@ -91,12 +92,12 @@ fn files_are_named(
         }
         return Ok(true);
     };
-    let mut files = files_of(rt, folder, &manifest)?;
+    let mut files = files_of(rt, folder, choice, &manifest)?;
     sum_all(rt, threads, &mut files);
     let mut are_named = true;
-    for (entry, it) in manifest.entries().iter().zip(files.iter()) {
+    for it in &files {
         let is_named = is_named(rt, it);
-        let name = entry.name();
+        let name = it.name.as_str();
         let line = if is_named {
             format!(in rt.alloc(); "{name} sound\n")?
         } else {
@@ -108,23 +109,42 @@ fn files_are_named(
     Ok(are_named)
 }
 
-/// The files of a folder that a manifest names, of which none is summed yet.
+/// The files of a folder that a manifest names, of which none is summed yet. A master record beside a
+/// log that has grown is left out: a newer one may have taken its place.
 fn files_of(
     rt: &HostRuntime,
     folder: &str,
+    choice: ManifestUse<'_>,
     manifest: &Manifest,
 ) -> Result<Vec<SummedFile>, AllocError> {
+    let log = len_of(rt, folder, "log")?;
     let mut files = Vec::new(rt.alloc());
     for entry in manifest.entries() {
         let name = entry.name();
-        let place = format!(in rt.alloc(); "{folder}/{name}")?;
-        files.push(SummedFile {
-            place,
-            file: entry.file(),
-            done: Ok(false),
-        })?;
+        let read = ReadFile {
+            name,
+            in_part: false,
+            log,
+        };
+        if let Known::Named(file) = known_file(choice, Some(manifest), &read) {
+            files.push(SummedFile {
+                name: String::from_str(rt.alloc(), name)?,
+                place: format!(in rt.alloc(); "{folder}/{name}")?,
+                file,
+                done: Ok(false),
+            })?;
+        }
     }
     Ok(files)
+}
+
+/// How many bytes a file of a folder has, if that can be told.
+fn len_of(rt: &HostRuntime, folder: &str, name: &str) -> Result<Option<u64>, AllocError> {
+    let place = format!(in rt.alloc(); "{folder}/{name}")?;
+    match fs::metadata(rt, place.as_str()) {
+        Ok(there) => Ok(Some(there.len())),
+        Err(_) => Ok(None),
+    }
 }
 
 /// Sums these files side by side.

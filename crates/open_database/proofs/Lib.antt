@@ -1,10 +1,14 @@
 mod CopyCalls
 mod CutLives
 mod PowerCuts
+mod Puts
 mod Reopened
 mod Runs
 mod Served
+mod Spelled
+mod SummedLog
 mod TakingUp
 mod Waiting
 mod Whole
+mod WordCopies
 mod WordRuns

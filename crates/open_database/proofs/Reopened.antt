@@ -1,7 +1,8 @@
 -- A database that is opened again.
-use Rattle.std.proofs.Common.{◌≡◌, List, [], ap, length, subst, sym, ◌∙◌}
+use Rattle.std.proofs.Common.{◌≡◌, ℕ, List, [], ap, length, subst, sym, ◌∙◌}
 use Rattle.page_core.specs.declared.page.Page.{Page}
 use Rattle.page_core.specs.Volume.{AreNumbered}
+use Rattle.log_front.specs.Front.{end_of}
 use Rattle.log_records.specs.Log.{IsLog, IsPageCount, Log, page_count}
 use Rattle.log_records.proofs.Public.{length-redo_all, numbered-redo_all}
 use Rattle.log_records.proofs.Public.{page_count-is_count}
@@ -29,15 +30,15 @@ are_counted it is counted =
 pub are_numbered : (it : RestartedView) → IsRestarted it → AreNumbered it.pages
 are_numbered it is = subst AreNumbered (sym is.pages) (numbered-redo_all it.log.records (page_count it.log))
 
-pub goes_on_with : (log : Log) (files : List CopyFile) (begun last : RestartedView) (engine : EngineState)
-    → begun.log ≡ undone_log log → begun.copies ≡ [] → last.log ≡ begun.log → TakesUp begun files last
+pub goes_on_with : (log : Log) (at : ℕ) (files : List CopyFile) (begun last : RestartedView) (engine : EngineState)
+    → at ≡ end_of log → begun.log ≡ undone_log log → begun.copies ≡ [] → last.log ≡ begun.log → TakesUp at begun files last
     → GoesOnFrom last.log engine → engine.copies ≡ last.copies → GoesOnWith log files engine
-goes_on_with log files begun last engine log_is no_copy same taken goes_on copies = record {
+goes_on_with log at files begun last engine at_end log_is no_copy same taken goes_on copies = record {
   goes_on = subst (λ (l : Log). GoesOnFrom l engine) (same ∙ log_is) goes_on;
   begun = begun;
   last = last;
   log_is = log_is;
   no_copy = no_copy;
-  taken = taken;
+  taken = subst (λ (e : ℕ). TakesUp e begun files last) at_end taken;
   copies = copies;
 }

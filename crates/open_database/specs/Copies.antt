@@ -8,6 +8,7 @@ use Rattle.engine_restart.specs.Added.{IsNotAdded, MayAdd}
 use Rattle.engine_restart.specs.Restart.{RestartedView}
 use Rattle.engine_restart.specs.declared.add_fault.AddCopyFault.{AddCopyFault}
 use Rattle.engine_restart.specs.declared.add_fault.AddCopyFault.TheVariants as add
+use Rattle.open_database.specs.Evidence.{IsWithin}
 use Rattle.open_database.specs.declared.found_copies.CopyFile.{CopyFile}
 use Rattle.open_database.specs.declared.found_copies.FoundCopy.{FoundCopy}
 use Rattle.open_database.specs.declared.found_copies.FoundCopy.TheVariants.{Unread, Whole, Wrong}
@@ -38,18 +39,25 @@ abbrev pub IsJudged : ℕ → CopyView → RestartedView → RestartedView → T
 IsJudged id copy old new =
     IsTakenUp old new id copy ⊎ (IsRefused old id copy × (new.copies ≡ old.copies))
 
--- so is what stands under the name of a copy; only a copy is taken up
-abbrev pub IsHeard : ℕ → FoundCopy → RestartedView → RestartedView → Type 0
-IsHeard id (Whole copy) old new = IsJudged id copy old new
-IsHeard id (Wrong why) old new = new.copies ≡ old.copies
-IsHeard id (Unread why) old new = new.copies ≡ old.copies
+-- so is one that has nothing past this end of the log that was found; one that knows of more has its
+-- file moved aside, and is not taken up
+abbrev pub IsJudgedWithin : ℕ → ℕ → CopyView → RestartedView → RestartedView → Type 0
+IsJudgedWithin end id copy old new = (IsWithin end copy × IsJudged id copy old new)
+    ⊎ ((¬ IsWithin end copy) × (new.copies ≡ old.copies))
 
--- one after another, each is taken up or refused, also behind one that was refused
-pub data TakesUp (begun : RestartedView) : List CopyFile → RestartedView → Type 0 where
-  none_left : TakesUp begun [] begun
+-- so is what stands under the name of a copy; only a copy is taken up
+abbrev pub IsHeard : ℕ → ℕ → FoundCopy → RestartedView → RestartedView → Type 0
+IsHeard end id (Whole copy) old new = IsJudgedWithin end id copy old new
+IsHeard end id (Wrong why) old new = new.copies ≡ old.copies
+IsHeard end id (Unread why) old new = new.copies ≡ old.copies
+
+-- one after another, each is taken up or not, also behind one that was not; the log that was found
+-- ended here, before anything was taken back
+pub data TakesUp (end : ℕ) (begun : RestartedView) : List CopyFile → RestartedView → Type 0 where
+  none_left : TakesUp end begun [] begun
   one_more : (files : List CopyFile) (file : CopyFile) (old new : RestartedView)
-      → TakesUp begun files old → new.log ≡ old.log → IsHeard file.id file.found old new
-      → TakesUp begun (files ++ file ∷ []) new
+      → TakesUp end begun files old → new.log ≡ old.log → IsHeard end file.id file.found old new
+      → TakesUp end begun (files ++ file ∷ []) new
 
 -- the id of a copy that could not be read
 abbrev pub id_unread : ℕ → FoundCopy → List ℕ

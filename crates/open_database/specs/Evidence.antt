@@ -1,9 +1,13 @@
 -- What shows that a log was longer once.
-use Rattle.std.specs.Prelude.{ℕ, ◌≡◌, ◌<◌, ◌≤◌, List, [], length, Option, IfSome}
+use Rattle.std.specs.Prelude.{ℕ, ◌≡◌, ◌<◌, ◌≤◌, List, [], codes, length, take, Option, None, Some}
+use Rattle.std.specs.Prelude.{IfSome}
 use Rattle.std.specs.List.{All}
 use Rattle.image_copies.specs.Copy.{CopyView, PageDecision, decision_at, kept, taken, undecided}
 use Rattle.log_front.specs.Remains.{WasForced}
 use Rattle.log_store.specs.declared.master.Master.{Master}
+use Rattle.manifest.specs.declared.entry.FileSum.{FileSum}
+use Rattle.manifest.specs.Entries.{Listed, file_of}
+use Rattle.manifest.specs.Sums.{IsSumOf}
 use Rattle.open_database.specs.declared.closed_note.ClosedNote.{ClosedNote}
 use Rattle.open_database.specs.declared.evidence.Claim.{Claim}
 use Rattle.open_database.specs.declared.evidence.Witness.{Witness}
@@ -13,9 +17,11 @@ use Rattle.open_database.specs.declared.found_copies.FoundCopy.{FoundCopy}
 use Rattle.open_database.specs.declared.found_copies.FoundCopy.TheVariants as found
 
 -- a log that ends here lacks what a witness knows to have been forced: bytes before the place where
--- the log ended, or the record at the place
+-- the log ended, or the record at the place; or the bytes before the place are other ones
 abbrev pub Misses : ℕ → Witness → ℕ → Type 0
 Misses end witness.Closed at = end < at
+Misses end witness.Manifest at = end < at
+Misses end witness.Changed at = Unit {0}
 Misses end witness.Master at = end ≤ at
 Misses end (witness.Begin copy) at = end ≤ at
 Misses end (witness.Page copy page) at = end ≤ at
@@ -44,10 +50,26 @@ IsFoundWithin end (found.Unread why) = Unit {0}
 abbrev pub IsFileWithin : ℕ → CopyFile → Type 0
 IsFileWithin end file = IsFoundWithin end file.found
 
--- nothing that was found knows of a forced record that a log which ends here lacks
-pub record LacksNothing (end : ℕ) (note : Option ClosedNote) (master : Option Master)
-    (copies : List CopyFile) (bytes : List ℕ) : Type 0 where
+-- what a manifest says of the log
+abbrev pub log_line : Option Listed → Option FileSum
+log_line None = None
+log_line (Some it) = file_of (codes "log") it.entries
+
+-- these bytes begin with those that are named
+abbrev pub BeginsAs : FileSum → List ℕ → Type 0
+BeginsAs file bytes = IsSumOf file.sum file.bytes (take file.bytes bytes)
+
+-- a log that ends here, in these bytes, begins with those that are named
+pub record IsBegunIn (end : ℕ) (bytes : List ℕ) (file : FileSum) : Type 0 where
+  pub within : file.bytes ≤ end
+  pub same : BeginsAs file bytes
+
+-- nothing that was found knows of a forced record that a log which ends here lacks, and the log begins
+-- with the bytes that the manifest names
+pub record LacksNothing (end : ℕ) (note : Option ClosedNote) (manifest : Option Listed)
+    (master : Option Master) (copies : List CopyFile) (bytes : List ℕ) : Type 0 where
   pub closed : IfSome note (λ it. it.end ≤ end)
+  pub listed : IfSome (log_line manifest) (IsBegunIn end bytes)
   pub named : IfSome master (λ it. it.end < end)
   pub copied : All (IsFileWithin end) copies
   pub behind : (at : ℕ) → end ≤ at → ¬ WasForced bytes at

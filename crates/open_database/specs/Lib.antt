@@ -1,8 +1,10 @@
+pub mod Backups
 pub mod Calls
 pub mod Closed
 pub mod ClosedVolume
 pub mod Copies
 pub mod Evidence
+pub mod Kept
 pub mod LeftOut
 pub mod MadeFiles
 pub mod Master
@@ -12,4 +14,5 @@ pub mod Pending
 pub mod PowerCuts
 pub mod Said
 pub mod Session
+pub mod WordCopies
 pub mod Words

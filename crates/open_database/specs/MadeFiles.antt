@@ -25,8 +25,9 @@ use Rattle.open_database.specs.declared.said.Said.{Said}
 use Rattle.open_database.specs.declared.said.Said.TheVariants.{Reply}
 use Rattle.open_database.specs.declared.unplaced_point.UnplacedPoint.{UnplacedPoint}
 use Rattle.open_database.specs.declared.word.Word.{Word}
-use Rattle.open_database.specs.declared.word.Word.TheVariants.{Checkpoint}
-use Rattle.open_database.specs.declared.word_said.WordSaid.TheVariants.{Call}
+use Rattle.open_database.specs.declared.word.Word.TheVariants.{Checkpoint, Copy}
+use Rattle.open_database.specs.declared.word_said.WordSaid.{WordSaid}
+use Rattle.open_database.specs.declared.word_said.WordSaid.TheVariants as word_said
 
 -- the engine made this call, and that is said of its reply; it refuses the call, where it has made
 -- it before, in this way
@@ -74,13 +75,26 @@ IsStoredFor (Seal id) said is_stored = IsAnswer said → is_stored
 IsStoredFor CkptEnd said is_stored = IfPoint said (λ _ _. is_stored)
 IsStoredFor other said is_stored = Unit {0}
 
--- so it is with what is told of a word: a checkpoint that is answered has its master record in place
+-- so it is with a copy that is told of a word
+abbrev pub IsCopyInPlace : WordSaid → EngineState → Option Entries → Type 0
+IsCopyInPlace (word_said.Copied id pages taken) engine entries =
+    WasPut (name_of (saved.Copy id)) (bytes_by (WritesCopy engine.copies id)) entries
+IsCopyInPlace other engine entries = Unit {0}
+
+abbrev pub IsCopyStored : WordSaid → Type 0 → Type 0
+IsCopyStored (word_said.Copied id pages taken) is_stored = is_stored
+IsCopyStored other is_stored = Unit {0}
+
+-- and with what is told of each word: a checkpoint that is answered has its master record in place
 abbrev pub HasPlaced : Word → Told → EngineState → Option Entries → Type 0
-HasPlaced Checkpoint (one_line (Call said)) engine entries = IsInPlace CkptEnd said engine entries
+HasPlaced Checkpoint (one_line (word_said.Call said)) engine entries =
+    IsInPlace CkptEnd said engine entries
+HasPlaced (Copy parent) (one_line said) engine entries = IsCopyInPlace said engine entries
 HasPlaced word told engine entries = Unit {0}
 
 abbrev pub HasStored : Word → Told → Type 0 → Type 0
-HasStored Checkpoint (one_line (Call said)) is_stored = IsStoredFor CkptEnd said is_stored
+HasStored Checkpoint (one_line (word_said.Call said)) is_stored = IsStoredFor CkptEnd said is_stored
+HasStored (Copy parent) (one_line said) is_stored = IsCopyStored said is_stored
 HasStored word told is_stored = Unit {0}
 
 -- a copy that was made complete waits for its file, where that is not in place

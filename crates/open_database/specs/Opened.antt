@@ -4,7 +4,7 @@ use Rattle.std.specs.Prelude.{map}
 use Rattle.engine_restart.specs.Lives.{GoesOnFrom}
 use Rattle.engine_restart.specs.Restart.{RestartedView, undone_log}
 use Rattle.engine_rules.specs.EngineState.{EngineState, new_state}
-use Rattle.log_front.specs.Front.{IsFrontOf}
+use Rattle.log_front.specs.Front.{IsFrontOf, end_of}
 use Rattle.log_front.specs.declared.cut.Cut.{Cut}
 use Rattle.log_records.specs.Log.{Log}
 use Rattle.log_records.specs.declared.limits.TheConstants.{HEADER_BYTES}
@@ -13,14 +13,14 @@ use Rattle.open_database.specs.declared.found_copies.CopyFile.{CopyFile}
 use Rattle.open_database.specs.declared.log_file.LogFile.{LogFile}
 
 -- an engine goes on from this log, once what was open there is taken back, with those of the copies
--- in these files that are taken up
+-- in these files that know of nothing past its end, and are taken up
 pub record GoesOnWith (log : Log) (files : List CopyFile) (engine : EngineState) : Type 0 where
   pub goes_on : GoesOnFrom (undone_log log) engine
   pub begun : RestartedView
   pub last : RestartedView
   pub log_is : begun.log ≡ undone_log log
   pub no_copy : begun.copies ≡ []
-  pub taken : TakesUp begun files last
+  pub taken : TakesUp (end_of log) begun files last
   pub copies : engine.copies ≡ last.copies
 
 -- an engine goes on from the longest front of so many bytes that is a log, and the file of each copy

@@ -1,5 +1,5 @@
 -- Words of an operator: how they are spelled, which calls of the engine they make, and what is told.
-use Rattle.std.specs.Prelude.{ℕ, ◌≡◌, List, [], ◌∷◌, ◌++◌, Result, Ok, Err}
+use Rattle.std.specs.Prelude.{ℕ, ◌≡◌, List, [], ◌∷◌, ◌++◌, Option, Some, None, Result, Ok, Err}
 use Rattle.std.specs.Prelude.{codes}
 use Rattle.std.specs.Fmt.{decimal}
 use Rattle.std.specs.List.{All, sum_by}
@@ -12,14 +12,16 @@ use Rattle.engine_calls.specs.declared.event.Event.TheVariants.{CkptBegin, CkptE
 use Rattle.engine_calls.specs.declared.refusal.Refusal.{Refusal}
 use Rattle.engine_rules.specs.EngineState.{EngineState}
 use Rattle.engine_rules.specs.Run.{Run}
+use Rattle.event_script.specs.Words.{number_of}
 use Rattle.open_database.specs.Calls.{IsNoFault, IsOfClosing}
-use Rattle.open_database.specs.Said.{IsAnswerOr, line_of_said}
+use Rattle.open_database.specs.Said.{IsAnswer, IsAnswerOr, line_of_said}
+use Rattle.open_database.specs.WordCopies.{BeginsAndFills}
 use Rattle.open_database.specs.declared.said.Said.{Said}
 use Rattle.open_database.specs.declared.said.Said.TheVariants.{Reply}
 use Rattle.open_database.specs.declared.word.Word.{Word}
-use Rattle.open_database.specs.declared.word.Word.TheVariants.{Checkpoint, Flush, Help, Status}
+use Rattle.open_database.specs.declared.word.Word.TheVariants.{Checkpoint, Copy, Flush, Help, Status}
 use Rattle.open_database.specs.declared.word_said.WordSaid.{WordSaid}
-use Rattle.open_database.specs.declared.word_said.WordSaid.TheVariants.{Call, Flushed}
+use Rattle.open_database.specs.declared.word_said.WordSaid.TheVariants.{Call, Copied, Flushed}
 
 -- ---- how words are spelled
 
@@ -27,6 +29,9 @@ use Rattle.open_database.specs.declared.word_said.WordSaid.TheVariants.{Call, Fl
 abbrev pub IsSpelled : List ℕ → Word → Type 0
 IsSpelled text Checkpoint = text ≡ codes "checkpoint"
 IsSpelled text Flush = text ≡ codes "flush"
+IsSpelled text (Copy None) = text ≡ codes "copy"
+IsSpelled text (Copy (Some parent)) =
+    (digits : List ℕ) × (text ≡ codes "copy on " ++ digits) × (number_of digits ≡ Some parent)
 IsSpelled text Status = text ≡ codes "status"
 IsSpelled text Help = text ≡ codes "help"
 
@@ -44,6 +49,8 @@ Spells line word = (text : List ℕ) × SpellsText line text × IsSpelled text w
 abbrev pub line_of_word : WordSaid → List ℕ
 line_of_word (Call said) = line_of_said said
 line_of_word (Flushed count) = codes "flushed " ++ decimal count
+line_of_word (Copied id pages taken) =
+    codes "copy " ++ decimal id ++ codes " pages " ++ decimal pages ++ codes " taken " ++ decimal taken
 
 -- one line is told of a word, of its calls; or lines of the database or of the words
 pub data Told : Type 0 where
@@ -141,6 +148,19 @@ pub data SaysOfWord : Word → List Event → List (Result Answer Refusal) → T
   not_gathered : (why : Refusal) (events : List Event) (replies : List (Result Answer Refusal))
       → AreRefused IsOfCheckpoint why events replies
       → SaysOfWord Checkpoint events replies (one_line (Call (Reply (Err why))))
+  -- a copy was begun and filled, where the last checkpoint is new
+  copied : (parent : Option ℕ) (events : List Event) (replies : List (Result Answer Refusal))
+      (said : WordSaid) → BeginsAndFills parent events replies said
+      → SaysOfWord (Copy parent) events replies (one_line said)
+  -- or behind a whole checkpoint, which was answered
+  copied_behind : (parent : Option ℕ) (events more : List Event)
+      (replies given : List (Result Answer Refusal)) (point : Answer) (said : WordSaid)
+      → SaysOfWord Checkpoint events replies (one_line (Call (Reply (Ok point))))
+      → BeginsAndFills parent more given said
+      → SaysOfWord (Copy parent) (events ++ more) (replies ++ given) (one_line said)
+  not_behind : (parent : Option ℕ) (events : List Event) (replies : List (Result Answer Refusal))
+      (said : Said) → SaysOfWord Checkpoint events replies (one_line (Call said)) → ¬ IsAnswer said
+      → SaysOfWord (Copy parent) events replies (one_line (Call said))
   -- no call was made
   telling : (word : Word) (text : List ℕ) → IsTelling word → SaysOfWord word [] [] (lines text)
 

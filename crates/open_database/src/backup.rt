@@ -1,13 +1,15 @@
 //! A checkpoint and a copy of a closed database.
 
+ghost use Rattle.std.specs.Prelude.{◌≡◌};
+ghost use Rattle.open_database.specs.Backups.{BacksUp, IsAskedFor, WasBackedUp};
+ghost use Rattle.open_database.specs.declared.open.OpenEnd.TheVariants.{Well};
+
 use crate::checkpoint_and_copy::checkpoint_and_copy;
 use crate::fault::OpenFault;
-use crate::open::{FileSession, OpenCall, OpenEnd, held, opened, put_point};
-use crate::pending::Pending;
-use crate::restarted::Reopened;
+use crate::file_session::{FileSession, OpenedSession, session_in};
+use crate::kept_manifest::KeptManifest;
+use crate::open::{OpenCall, OpenEnd, held, put_point};
 use crate::second_folder::put_beside;
-use crate::session::Session;
-use crate::tally::Tally;
 use crate::told::Teller;
 use crate::whole_copy::newest;
 use copy_vault::{CopyId, Vault};
@@ -32,7 +34,9 @@ pub struct BackupCall<'a> {
 /// Opens the database in a folder, makes a checkpoint and a copy, and closes it. The copy stands on
 /// the newest one, if there is one and the call does not say otherwise. Of a second folder, the log
 /// there is replaced only by one that begins with it.
-pub fn backup_folder(rt: &HostRuntime, call: &BackupCall<'_>) -> OpenEnd {
+pub fn backup_folder(rt: &HostRuntime, call: &BackupCall<'_>) -> OpenEnd
+    ensures { result ≡ Well → WasBackedUp call.now.full call.now.on }
+{
     // Where a standard stream is closed, a file of the database must not get its number.
     let _held = held(rt);
     let (notes, store_notes) = (Notes::new(), Notes::new());
@@ -47,72 +51,74 @@ pub fn backup_folder(rt: &HostRuntime, call: &BackupCall<'_>) -> OpenEnd {
         salvage: false,
         strict: true,
     };
-    let mut folder = SystemFolder::new(rt, rt.alloc(), call.folder, &notes);
-    let begun = match Pending::new(rt.alloc()) {
-        Ok(pending) => match opened(&teller, &mut folder, &open, &store_notes) {
-            Ok(it) => Ok((it, pending)),
-            Err(fault) => Err(fault),
-        },
-        Err(_) => Err(OpenFault::OutOfMemory),
-    };
-    let (it, pending) = match begun {
-        Ok(begun) => begun,
+    let folder = SystemFolder::new(rt, rt.alloc(), call.folder, &notes);
+    match session_in(&teller, folder, (&notes, &store_notes), &open) {
+        Ok(
+            OpenedSession {
+                mut session,
+                mut kept,
+                point,
+                ..
+            },
+        ) => {
+            put_point(&mut session, point);
+            backed_up(&mut session, &mut kept, call)
+        }
         Err(fault) => {
             teller.tell_fault(&fault, &notes);
-            return OpenEnd::Failed;
+            OpenEnd::Failed
         }
-    };
-    let Reopened {
-        engine,
-        point,
-        is_master_wrong,
-        unread,
-        ..
-    } = it;
-    let mut session = Session {
-        alloc: rt.alloc(),
-        engine,
-        folder,
-        teller,
-        notes: &notes,
-        store_notes: &store_notes,
-        pending,
-        point: None,
-        is_master_wrong,
-        unread,
-        tally: Tally::new(),
-        has_failed: false,
-    };
-    put_point(&mut session, point);
-    backed_up(&mut session, call)
+    }
 }
 
 /// Makes the checkpoint and the copy, closes the database, and fills the second folder.
-fn backed_up(session: &mut FileSession<'_>, call: &BackupCall<'_>) -> OpenEnd {
-    let on = match (call.full, call.on) {
-        (true, _) => None,
-        (false, Some(id)) => Some(id),
-        (false, None) => newest(session.engine.copies()).map(|id| id.0),
-    };
-    let is_made = checkpoint_and_copy(session, on);
-    session.close();
-    if !is_made || session.has_failed {
-        return OpenEnd::Failed;
-    }
-    match call.into {
-        Some(into) => put_into(session, into),
-        None => OpenEnd::Well,
+fn backed_up(
+    session: &mut FileSession<'_>,
+    kept: &mut KeptManifest,
+    call: &BackupCall<'_>,
+) -> OpenEnd
+    ensures { result ≡ Well → BacksUp call.now.full call.now.on session.old.engine.state
+        session.new.engine.state }
+{
+    let on = parent_for(call, session.engine.copies());
+    let copied = checkpoint_and_copy(session, on);
+    session.close(kept);
+    match copied {
+        Some(id) if !session.has_failed => put_into(session, kept, id, call),
+        _ => OpenEnd::Failed,
     }
 }
 
-/// Puts the log, the master record and the chain of the newest copy into a second folder.
-fn put_into(session: &mut FileSession<'_>, into: &str) -> OpenEnd {
+/// The copy that the new one is to stand on.
+fn parent_for(call: &BackupCall<'_>, copies: &Vault) -> Option<u32>
+    ensures { IsAskedFor call.now.full call.now.on result }
+{
+    match (call.full, call.on) {
+        (true, _) => None,
+        (false, Some(id)) => Some(id),
+        (false, None) => newest(copies).map(|id| id.0),
+    }
+}
+
+/// Puts the log, the master record and the chain of a copy into the second folder, if there is one.
+fn put_into(
+    session: &FileSession<'_>,
+    kept: &KeptManifest,
+    id: u32,
+    call: &BackupCall<'_>,
+) -> OpenEnd {
+    let Some(into) = call.into else {
+        return OpenEnd::Well;
+    };
     let rt = session.teller.rt;
     let notes = Notes::new();
     let teller = Teller { rt, folder: into };
     let mut folder = SystemFolder::new(rt, rt.alloc(), into, &notes);
-    let put = match chain_of(session.alloc, session.engine.copies()) {
-        Ok(chain) => put_beside(rt, session.teller.folder, &mut folder, into, &chain),
+    let put = match chain_of(session.alloc, session.engine.copies(), CopyId(id)) {
+        Ok(chain) => {
+            let (from, database) = (session.teller.folder, kept.manifest.database());
+            put_beside(rt, from, &mut folder, into, &chain, database)
+        }
         Err(_) => Err(OpenFault::OutOfMemory),
     };
     match put {
@@ -124,10 +130,10 @@ fn put_into(session: &mut FileSession<'_>, into: &str) -> OpenEnd {
     }
 }
 
-/// The copies of the newest one's chain, that one first.
-fn chain_of(alloc: Global, vault: &Vault) -> Result<Vec<CopyId>, AllocError> {
+/// The copies of this one's chain, that one first.
+fn chain_of(alloc: Global, vault: &Vault, id: CopyId) -> Result<Vec<CopyId>, AllocError> {
     let mut chain = Vec::new(alloc);
-    let mut next = newest(vault);
+    let mut next = Some(id);
     for _ in 0..MAX_COPIES {
         let Some(id) = next else {
             break;

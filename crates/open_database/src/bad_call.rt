@@ -16,6 +16,8 @@ pub(crate) enum LineTrouble {
     Restore,
     /// More stands behind a word that stands alone.
     NotAlone,
+    /// It begins as the word of a copy, and is neither of its two forms.
+    NoCopyWord,
 }
 
 /// A line that is no call, and why. Its text says what is wrong, in the line's words.
@@ -37,6 +39,9 @@ impl fmt::Display for BadCall<'_> {
             LineTrouble::Unended => f.write_str("it has no line feed, and was not made"),
             LineTrouble::Restore => f.write_str("an open database has no `restore`"),
             LineTrouble::NotAlone => f.write_str("this word stands alone"),
+            LineTrouble::NoCopyWord => f.write_str(
+                "this word is `copy` or `copy on N`, of a copy N",
+            ),
         }
     }
 }

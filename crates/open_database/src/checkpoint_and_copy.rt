@@ -1,23 +1,85 @@
 //! A checkpoint and a copy that a command has an open database make.
 
-use crate::open::FileSession;
-use crate::said::{Said, write_said};
+ghost use Rattle.std.specs.Prelude.{◌≡◌, IfSome, IsTrue};
+ghost use Rattle.open_database.specs.Backups.{CopiesBehindPoint, IsCopyPut, IsToldWell};
+
+use crate::session::{Session, TellsWhy};
+use crate::word_said::{WordSaid, write_word};
+use log_store::LogDevice;
+use page_store::PageStore;
+use saved_files::Folder;
 use std::io;
 use system_files::{Noted, Notes, Patient};
 
 /// Makes a checkpoint and then a copy, on this one or a full one, and writes what is said of each to
-/// standard output. Says whether both were made; what went wrong was told.
-pub(crate) fn checkpoint_and_copy(session: &mut FileSession<'_>, on: Option<u32>) -> bool {
-    let said = session.checkpoint();
-    if !is_told(session, &said) {
-        return false;
+/// standard output. Answers the id of the copy, if both were made and written; what went wrong was
+/// told.
+pub(crate) fn checkpoint_and_copy<F: Folder, S: PageStore, D: LogDevice + TellsWhy>(
+    session: &mut Session<'_, F, S, D>,
+    on: Option<u32>,
+) -> Option<u32>
+    requires { F.is_claimed session.old.folder }
+    ensures made { IfSome result (λ id.
+        CopiesBehindPoint on id session.old.engine.state session.new.engine.state) }
+    ensures in_place { IfSome result (λ id.
+        IsCopyPut id session.new.engine.state (F.entries session.new.folder)) }
+    ensures stored { IfSome result (λ _. F.is_stored session.new.folder) }
+    ensures claimed { F.is_claimed session.new.folder }
+{
+    let point = session.checkpoint();
+    if !is_told(session, &WordSaid::Call(point)) {
+        return None;
     }
-    let said = session.whole_copy(on);
-    is_told(session, &said)
+    let copied = session.copy(on);
+    if !is_told(session, &copied) {
+        return None;
+    }
+    copied.copied()
 }
 
-/// Writes what is said. Says whether that is no refusal, and was written.
-fn is_told(session: &mut FileSession<'_>, said: &Said) -> bool {
+/// Tells a person what went wrong, and writes what is said. Says whether that is no refusal, and was
+/// written.
+fn is_told<F: Folder, S: PageStore, D: LogDevice + TellsWhy>(
+    session: &mut Session<'_, F, S, D>,
+    said: &WordSaid,
+) -> bool
+    ensures well { IsTrue result → IsToldWell said.now }
+    ensures engine { session.new.engine ≡ session.old.engine }
+    ensures folder { session.new.folder ≡ session.old.folder }
+{
+    let is_well = is_well(session, said);
+    is_written(session, said) && is_well
+}
+
+/// Whether nothing was refused. What was is told.
+fn is_well<F: Folder, S: PageStore, D: LogDevice + TellsWhy>(
+    session: &mut Session<'_, F, S, D>,
+    said: &WordSaid,
+) -> bool
+    ensures well { IsTrue result → IsToldWell said.now }
+    ensures engine { session.new.engine ≡ session.old.engine }
+    ensures folder { session.new.folder ≡ session.old.folder }
+{
+    match said.refused() {
+        Some(refused) => {
+            if refused.is_fault() {
+                session.has_failed = true;
+            }
+            session.tell_fault(&refused);
+            false
+        }
+        None => true,
+    }
+}
+
+/// Writes what is said, and says whether it was written.
+fn is_written<F: Folder, S: PageStore, D: LogDevice + TellsWhy>(
+    session: &mut Session<'_, F, S, D>,
+    said: &WordSaid,
+) -> bool
+    ensures engine { session.new.engine ≡ session.old.engine }
+    ensures folder { session.new.folder ≡ session.old.folder }
+{
     let rt = session.teller.rt;
     let output = Notes::new();
     let mut writer = Patient {
@@ -27,14 +89,12 @@ fn is_told(session: &mut FileSession<'_>, said: &Said) -> bool {
         },
         rt,
     };
-    if said.is_fault() {
-        session.has_failed = true;
+    match write_word(session.alloc, said, &mut writer) {
+        Ok(()) => true,
+        Err(fault) => {
+            session.has_failed = true;
+            session.teller.tell_ended(&fault, &Notes::new(), &output);
+            false
+        }
     }
-    session.tell_fault(said);
-    if let Err(fault) = write_said(session.alloc, said, &mut writer) {
-        session.has_failed = true;
-        session.teller.tell_ended(&fault, &Notes::new(), &output);
-        return false;
-    }
-    !said.is_refused()
 }

@@ -2,8 +2,7 @@
 
 ghost use Rattle.std.specs.Prelude.{◌≡◌, IfOk, IsTrue, OnOk, length};
 ghost use Rattle.log_front.specs.Front.{end_of};
-ghost use Rattle.log_records.specs.Log.{IsPageCount};
-ghost use Rattle.open_database.specs.ClosedVolume.{HaveSameNumbers, IsLeftBy};
+ghost use Rattle.open_database.specs.ClosedVolume.{HaveSameNumbers, IsLeftBy, IsOfClosed};
 ghost use Rattle.open_database.specs.Evidence.{LacksNothing};
 ghost use Rattle.open_database.specs.Master.{spelled};
 
@@ -24,7 +23,7 @@ use std::os::unix::fs::FileExt;
 /// A database is closed where the note of its closing says where its log ends, and nothing that
 /// stands beside it knows of more.
 pub(crate) fn read_closed(teller: &Teller<'_>) -> Result<Vec<Page>, OpenFault>
-    ensures { IfOk result (λ pages. IsPageCount (length pages.items)) }
+    ensures { IfOk result (λ pages. IsOfClosed pages.items) }
 {
     let there = Inventory::of(teller.rt, teller.folder)?;
     if let (Some(place), false) = (there.widow(), there.has_log()) {
@@ -55,7 +54,7 @@ fn bytes_of(alloc: Global, log: &LogFile) -> Result<Vec<u8>, OpenFault>
 /// The pages that the log in these bytes leaves, where that is all of them, and what stands beside it
 /// vouches for its end.
 fn volume_in(alloc: Global, bytes: &[u8], others: &Others) -> Result<Vec<Page>, OpenFault>
-    ensures { IfOk result (λ pages. IsLeftBy bytes.now others.now.note
+    ensures { IfOk result (λ pages. IsLeftBy bytes.now others.now.note others.now.manifest
         (spelled others.now.master) others.now.copies.items pages.items) }
 {
     let front = match log_in(alloc, bytes) {
@@ -78,9 +77,9 @@ fn volume_in(alloc: Global, bytes: &[u8], others: &Others) -> Result<Vec<Page>, 
 /// Sees that nothing which stands beside a log, or behind it, knows of more than it has.
 fn check_kept(alloc: Global, front: &Front, bytes: &[u8], others: &Others) -> Result<(), OpenFault>
     ensures { OnOk result (LacksNothing (end_of front.now.log) others.now.note
-        (spelled others.now.master) others.now.copies.items bytes.now) }
+        others.now.manifest (spelled others.now.master) others.now.copies.items bytes.now) }
 {
-    let loss = loss_of(alloc, front, bytes, others)?;
+    let (loss, _) = loss_of(alloc, front, bytes, others)?;
     if loss.claims.is_empty() {
         return Ok(());
     }

@@ -3,33 +3,37 @@
 ghost use Rattle.std.specs.Prelude.{◌≡◌, ◌↔◌, ◌++◌, IfErr, IfOk, IsTrue, OnErr, OnOk};
 ghost use Rattle.copy_vault.specs.Added.{with_copy};
 ghost use Rattle.engine_restart.specs.Added.{IsNotAdded, MayAdd};
-ghost use Rattle.open_database.specs.Copies.{IsHeard, IsJudged, IsOfMemory, TakesUp, id_unread};
-ghost use Rattle.open_database.specs.Copies.{ids_unread};
+ghost use Rattle.open_database.specs.Copies.{IsHeard, IsJudged, IsJudgedWithin, IsOfMemory};
+ghost use Rattle.open_database.specs.Copies.{TakesUp, id_unread, ids_unread};
 
 use crate::copy_trouble::CopyTrouble;
+use crate::evidence::is_within;
 use crate::found_copies::{CopyFile, FoundCopy};
 use crate::place::Place;
 use crate::told::Teller;
 use copy_vault::{AddFault, CompleteCopy, CopyId};
 use engine_restart::{AddCopyFault, Restarted};
+use page_core::Lsn;
 use std::alloc::{AllocError, Global};
 
 /// Takes up these copies, whose ids rise, each once it is audited against the log. Why one is not is
-/// told, and its file stays where it is. Answers the ids of those that could not be read: they are
-/// not given again.
+/// told, and its file stays where it is. One that knows of more than the log had, which ended there
+/// before anything was taken back, is none of them: its file was moved aside. Answers the ids of those
+/// that could not be read: they are not given again.
 pub(crate) fn take_up(
     teller: &Teller<'_>,
     restarted: &mut Restarted,
+    end: Lsn,
     copies: Vec<CopyFile>,
 ) -> Result<Vec<u32>, AllocError>
     ensures log { restarted.new.log ≡ restarted.old.log }
     ensures pages { restarted.new.pages ≡ restarted.old.pages }
-    ensures taken { OnOk result (TakesUp restarted.old copies.items restarted.new) }
+    ensures taken { OnOk result (TakesUp end restarted.old copies.items restarted.new) }
     ensures unread { IfOk result (λ ids. ids.items ≡ ids_unread copies.items) }
 {
     let mut unread = Vec::new(teller.rt.alloc());
     for file in copies {
-        take_file(teller, restarted, file, &mut unread)?;
+        take_file(teller, restarted, end, file, &mut unread)?;
     }
     Ok(unread)
 }
@@ -38,18 +42,19 @@ pub(crate) fn take_up(
 fn take_file(
     teller: &Teller<'_>,
     restarted: &mut Restarted,
+    end: Lsn,
     file: CopyFile,
     unread: &mut Vec<u32>,
 ) -> Result<(), AllocError>
     ensures log { restarted.new.log ≡ restarted.old.log }
     ensures pages { restarted.new.pages ≡ restarted.old.pages }
-    ensures heard { OnOk result (IsHeard file.id file.found restarted.old restarted.new) }
+    ensures heard { OnOk result (IsHeard end file.id file.found restarted.old restarted.new) }
     ensures unread { OnOk result
         (unread.new.items ≡ unread.old.items ++ id_unread file.id file.found) }
 {
     let CopyFile { id, found } = file;
     match found {
-        FoundCopy::Whole(copy) => take_one(teller, restarted, id, copy),
+        FoundCopy::Whole(copy) => take_within(teller, restarted, end, id, copy),
         FoundCopy::Wrong(why) => {
             teller.tell(Place::Copy(id), &why);
             Ok(())
@@ -60,6 +65,25 @@ fn take_file(
             Ok(())
         }
     }
+}
+
+/// Takes up a copy that knows of nothing past this end of the log, or tells why not.
+fn take_within(
+    teller: &Teller<'_>,
+    restarted: &mut Restarted,
+    end: Lsn,
+    id: CopyId,
+    copy: CompleteCopy,
+) -> Result<(), AllocError>
+    ensures log { restarted.new.log ≡ restarted.old.log }
+    ensures pages { restarted.new.pages ≡ restarted.old.pages }
+    ensures judged { OnOk result (IsJudgedWithin end id copy restarted.old restarted.new) }
+{
+    if is_within(&copy, end) {
+        return take_one(teller, restarted, id, copy);
+    }
+    teller.tell(Place::Copy(id), &CopyTrouble::KnowsMore);
+    Ok(())
 }
 
 /// Takes up a copy, or tells why not.

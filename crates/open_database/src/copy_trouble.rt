@@ -15,6 +15,8 @@ pub(crate) enum CopyTrouble {
     Archive(ArchiveFault),
     /// It is the archive of another copy.
     OtherId(CopyId),
+    /// It knows of records that the log lacks, so that its file was moved aside.
+    KnowsMore,
     /// It is none that the log and the copies before it allow.
     Add(AddCopyFault),
 }
@@ -39,6 +41,7 @@ impl fmt::Display for CopyTrouble {
             }
             CopyTrouble::Archive(fault) => write!(f, "{fault}"),
             CopyTrouble::OtherId(id) => write!(f, "it is copy {number}", number = id.0),
+            CopyTrouble::KnowsMore => f.write_str("it knows of more than the log, and is not used"),
             CopyTrouble::Add(AddCopyFault::OfOtherLog) => {
                 f.write_str("it did not begin in this log")
             }

@@ -8,6 +8,7 @@ ghost use Rattle.open_database.specs.Closed.{IsClosed, note_of};
 ghost use Rattle.open_database.specs.MadeFiles.{WasPut};
 
 use crate::closed_note::ClosedNote;
+use crate::kept_manifest::KeptManifest;
 use crate::names::CLOSED;
 use crate::page_writes::write_pages;
 use crate::place::Place;
@@ -19,9 +20,9 @@ use page_store::PageStore;
 use saved_files::{FileFault, Folder, PutFault, put_in_place};
 
 impl<F: Folder, S: PageStore, D: LogDevice + TellsWhy> Session<'_, F, S, D> {
-    /// Forces the log, writes each dirty page, and notes where the log ends. What fails is told, and
-    /// then nothing is noted.
-    pub(crate) fn close(&mut self)
+    /// Forces the log, writes each dirty page, names all of the log in the manifest, and notes where it
+    /// ends. What fails is told, and then nothing is noted.
+    pub(crate) fn close(&mut self, kept: &mut KeptManifest)
         requires { F.is_claimed self.old.folder }
         ensures ran { RunsBy IsOfClosing IsAnyReply self.old.engine.state self.new.engine.state }
         // The folder is left alone, but where no file failed, and all of the log is forced.
@@ -36,6 +37,7 @@ impl<F: Folder, S: PageStore, D: LogDevice + TellsWhy> Session<'_, F, S, D> {
         if self.engine.log().forced_end() != end {
             return;
         }
+        self.keep_last(kept);
         if let Err(fault) = self.note_end(end) {
             self.has_failed = true;
             self.teller.tell_unkept(Place::Closed, fault, self.notes);

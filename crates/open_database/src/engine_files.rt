@@ -1,9 +1,10 @@
 //! The files that an open database puts in place.
 
-ghost use Rattle.std.specs.Prelude.{◌≡◌, OnOk};
+ghost use Rattle.std.specs.Prelude.{ℕ, ◌≡◌, IfOk, List, OnOk};
 ghost use Rattle.copy_vault.specs.CopyWrite.{LeavesCopy, WritesCopy};
 ghost use Rattle.std.specs.Io.KnownBytes.{Appends};
 ghost use Rattle.log_store.specs.Master.{master_bytes};
+ghost use Rattle.manifest.specs.Sums.{IsSumOf};
 ghost use Rattle.saved_files.specs.Folder.{Changes, Puts};
 ghost use Rattle.saved_files.specs.PutFault.{bytes_by};
 ghost use Rattle.saved_files.specs.Saved.{name_of};
@@ -11,7 +12,8 @@ ghost use Rattle.saved_files.specs.declared.saved_name.SavedName.TheVariants as 
 
 use aries_core::Engine;
 use copy_vault::{CopyId, CopyWriteFault};
-use log_store::{LogDevice, Master};
+use log_store::{LogDevice, Master, encode_master};
+use manifest::{Extent, FileSum, Sums};
 use page_store::PageStore;
 use saved_files::{FileFault, Folder, PutFault, SavedName, Source, put_in_place};
 use std::alloc::Global;
@@ -93,4 +95,41 @@ pub(crate) fn place_copy<F: Folder, S: PageStore, D: LogDevice>(
 {
     let mut source = EngineCopy { engine, id };
     place(folder, alloc, SavedName::Copy(id), &mut source)
+}
+
+/// What is known of the archive of a complete copy.
+pub(crate) fn sum_of_copy<S: PageStore, D: LogDevice>(
+    alloc: Global,
+    engine: &Engine<S, D>,
+    id: CopyId,
+) -> Result<FileSum, FileFault>
+    ensures { IfOk result (λ it. (bytes : List ℕ)
+        × bytes_by (WritesCopy engine.now.state.copies id) bytes × IsSumOf it.sum it.bytes bytes) }
+{
+    let mut bytes = Vec::new(alloc);
+    match engine.write_copy(id, &mut bytes) {
+        Ok(()) => Ok(sum_of(&bytes)),
+        Err(_) => Err(FileFault::OutOfMemory),
+    }
+}
+
+/// What is known of the file of a master record.
+pub(crate) fn sum_of_master(master: &Master) -> FileSum
+    ensures { IsSumOf result.sum result.bytes (master_bytes master.now) }
+{
+    sum_of(&encode_master(master))
+}
+
+/// What is known of a file of these bytes.
+pub(crate) fn sum_of(bytes: &[u8]) -> FileSum
+    ensures { IsSumOf result.sum result.bytes bytes.now }
+{
+    let mut sums = Sums::new();
+    sums.update(bytes);
+    let (sum, bytes) = sums.finish();
+    FileSum {
+        extent: Extent::Whole,
+        bytes,
+        sum,
+    }
 }

@@ -1,13 +1,15 @@
 //! What shows that a log was longer once than its file's front is now.
 
 ghost use Rattle.std.specs.Prelude.{◌↔◌, IsTrue};
-ghost use Rattle.open_database.specs.Evidence.{IsMissed};
+ghost use Rattle.open_database.specs.Evidence.{IsMissed, IsWithin};
 
 use crate::closed_note::ClosedNote;
 use crate::found_copies::{CopyFile, FoundCopy};
+use crate::found_manifest::sums_of;
 use copy_vault::{CompleteCopy, CopyId};
 use log_front::{Cut, forced_behind};
 use log_store::Master;
+use manifest::{FileSum, Sums};
 use page_core::{Lsn, PageNo};
 use std::alloc::{AllocError, Global};
 use std::fmt;
@@ -17,6 +19,10 @@ use std::fmt;
 pub(crate) enum Witness {
     /// The note of the last clean closing: the log ended there.
     Closed,
+    /// The manifest: the log was forced up to there.
+    Manifest,
+    /// The manifest has the sum of the log's bytes before there, and they have another one.
+    Changed,
     /// The master record: its checkpoint ended with the record there.
     Master,
     /// The copy of this id began at the record there.
@@ -31,6 +37,10 @@ impl fmt::Display for Witness {
     fn fmt<W: fmt::Write>(&self, f: &mut fmt::Formatter<W>) -> fmt::Result {
         match self {
             Witness::Closed => f.write_str("`closed` says that the log ended at"),
+            Witness::Manifest => f.write_str("`manifest` says that the log was forced to"),
+            Witness::Changed => {
+                f.write_str("`manifest` has another sum of the bytes of the log before")
+            }
             Witness::Master => f.write_str("`master` names the end of a checkpoint at"),
             Witness::Begin(id) => write!(f, "`copy-{number}` began at", number = id.0),
             Witness::Page(id, page) => {
@@ -40,6 +50,24 @@ impl fmt::Display for Witness {
             Witness::Record => f.write_str("a record that was forced stands at"),
         }
     }
+}
+
+/// Whether a log that ends there has all that a copy knows of: where it began, and the change of each
+/// of its pages.
+pub(crate) fn is_within(copy: &CompleteCopy, end: Lsn) -> bool
+    ensures { IsTrue result ↔ IsWithin end copy.now }
+{
+    if copy.begin() >= end {
+        return false;
+    }
+    for number in 0..copy.pages() {
+        if let Some(page) = copy.page(PageNo(number))
+            && page.lsn >= end
+        {
+            return false;
+        }
+    }
+    true
 }
 
 /// That the log was forced up to a place.
@@ -56,7 +84,8 @@ impl Claim {
         ensures { IsTrue result ↔ IsMissed self.now end }
     {
         match self.witness {
-            Witness::Closed => end < self.at,
+            Witness::Closed | Witness::Manifest => end < self.at,
+            Witness::Changed => true,
             Witness::Master | Witness::Begin(_) | Witness::Page(_, _) | Witness::Record => {
                 end <= self.at
             }
@@ -79,7 +108,8 @@ impl Loss {
     ghost use Rattle.std.specs.Prelude.{ℕ, ◌≡◌, ◌<◌, ◌≤◌, [], IfSome, OnOk};
     ghost use Rattle.std.specs.List.{All};
     ghost use Rattle.log_front.specs.Remains.{WasForced};
-    ghost use Rattle.open_database.specs.Evidence.{Hears, IsFileWithin, IsMissed, IsWithin};
+    ghost use Rattle.open_database.specs.Evidence.{Hears, IsBegunIn, IsFileWithin, IsMissed};
+    ghost use Rattle.open_database.specs.Evidence.{IsWithin};
 
     /// Of a log whose front ends there nothing is known to be missing yet.
     pub fn new(alloc: Global, end: Lsn, cut: Option<Cut>) -> Loss
@@ -128,6 +158,31 @@ impl Loss {
             Some(master) => self.note(Witness::Master, master.end),
             None => Ok(()),
         }
+    }
+
+    /// Hears what a manifest says of the log, whose file has these bytes: it has as many as are named,
+    /// and they have the sum that is named. Answers the sum of these, if that is so.
+    pub fn hear_manifest(
+        &mut self,
+        log: Option<FileSum>,
+        bytes: &[u8],
+    ) -> Result<Option<Sums>, AllocError>
+        ensures end { self.new.end ≡ self.old.end }
+        ensures heard { OnOk result (Hears self.old.claims.items self.new.claims.items
+            (IfSome log (IsBegunIn self.old.end bytes.now))) }
+    {
+        let Some(file) = log else {
+            return Ok(None);
+        };
+        if file.bytes > self.end.0 {
+            self.note(Witness::Manifest, Lsn(file.bytes))?;
+            return Ok(None);
+        }
+        let sums = sums_of(&file, bytes);
+        if sums.is_none() {
+            self.note(Witness::Changed, Lsn(file.bytes))?;
+        }
+        Ok(sums)
     }
 
     /// Hears the copies that were found.

@@ -6,6 +6,7 @@ use aries_core::{NotResumed, Refusal};
 use engine_restart::{FoundFault, FoundLogFault, RestartFault};
 use file_devices::FailedFile;
 use log_store::LogDevice;
+use manifest::ManifestFault;
 use page_core::FaultName;
 use page_store::PageStore;
 use saved_files::FileFault;
@@ -36,6 +37,10 @@ pub(crate) enum OpenFault {
     Found(FoundFault),
     /// There is no log, but this is there, which no folder has that had none.
     LogLost(Place),
+    /// What has the manifest's name is none.
+    BadManifest(ManifestFault),
+    /// No name of a database was drawn. The system has this number for why.
+    NoName(Option<i32>),
     /// The log lacks records that were forced.
     Lost(Loss),
     /// There is no log.
@@ -99,9 +104,15 @@ impl OpenFault {
     pub fn name(&self) -> Option<FaultName> {
         match self {
             OpenFault::OutOfMemory
+            | OpenFault::BadManifest(ManifestFault::OutOfMemory)
             | OpenFault::Found(FoundFault::OutOfMemory)
             | OpenFault::Restart(RestartFault::OutOfMemory, _) => Some(FaultName::OutOfMemory),
-            OpenFault::System(Place::Log | Place::Master | Place::Closed | Place::Copy(_), _)
+            OpenFault::System(
+                Place::Log | Place::Master | Place::Closed | Place::Manifest | Place::Copy(_),
+                _,
+            )
+            | OpenFault::BadManifest(_)
+            | OpenFault::NoName(_)
             | OpenFault::NoFile(_)
             | OpenFault::LinkToNothing
             | OpenFault::Found(FoundFault::ReadFault)

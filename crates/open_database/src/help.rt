@@ -4,6 +4,8 @@
 pub(crate) const HELP: &str = "\
     checkpoint: write each dirty page, and make a whole checkpoint\n\
     flush: write each dirty page\n\
+    copy: make a whole full copy, behind a checkpoint\n\
+    copy on COPY: make a whole incremental copy on a complete one, behind a checkpoint\n\
     status: pages, records, what is open and dirty, the last checkpoint, and complete copies\n\
     help: these lines\n\
     quit: close the database, as the end of the input does\n\

@@ -1,7 +1,7 @@
 //! What stands in a folder before it is opened.
 
 use crate::fault::OpenFault;
-use crate::names::{CLOSED, LOG, MASTER, VOLUME, copy_of, is_harmless, is_unfinished};
+use crate::names::{CLOSED, LOG, MANIFEST, MASTER, VOLUME, copy_of, is_harmless, is_unfinished};
 use crate::place::Place;
 use copy_vault::CopyId;
 use std::path::{Path, PathBuf};
@@ -14,6 +14,7 @@ pub(crate) struct Inventory {
     pub copies: Vec<CopyId>,
     pub has_master: bool,
     pub has_closed: bool,
+    pub has_manifest: bool,
     /// What older lives left unfinished.
     unfinished: Vec<PathBuf>,
     has_log: bool,
@@ -30,6 +31,7 @@ impl Inventory {
             copies: Vec::new(alloc),
             has_master: false,
             has_closed: false,
+            has_manifest: false,
             unfinished: Vec::new(alloc),
             has_log: false,
             has_volume: false,
@@ -65,6 +67,7 @@ impl Inventory {
             VOLUME => self.has_volume = true,
             MASTER => self.has_master = true,
             CLOSED => self.has_closed = true,
+            MANIFEST => self.has_manifest = true,
             _ => {
                 let Some(id) = copy_of(name) else {
                     return Ok(false);
@@ -77,7 +80,7 @@ impl Inventory {
 
     /// What says that there was a log once, where there is none now. Before a log has its header
     /// there is no master record, no copy and no note of a closing, and before there is a log no
-    /// volume.
+    /// volume. What a manifest says of a log is heard elsewhere.
     pub fn widow(&self) -> Option<Place> {
         if let Some(id) = self.copies.first() {
             return Some(Place::Copy(*id));

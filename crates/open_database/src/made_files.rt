@@ -54,7 +54,7 @@ impl<F: Folder, S: PageStore, D: LogDevice + TellsWhy> Session<'_, F, S, D> {
     }
 
     /// Makes a copy complete, which waits for its file then.
-    fn complete(&mut self, id: u32) -> Reply
+    pub(crate) fn complete(&mut self, id: u32) -> Reply
         ensures step { Step self.old.engine.state (event.Seal id) result self.new.engine.state }
         ensures waits { OnOk result (Waits self.new.pending id) }
         ensures refused { OnErr result (self.new.pending ≡ self.old.pending) }
@@ -81,7 +81,7 @@ impl<F: Folder, S: PageStore, D: LogDevice + TellsWhy> Session<'_, F, S, D> {
     }
 
     /// Puts the file of a complete copy in place, and answers this, if it is there.
-    fn place_sealed(&mut self, id: u32, answer: Answer) -> Said
+    pub(crate) fn place_sealed(&mut self, id: u32, answer: Answer) -> Said
         requires claimed { F.is_claimed self.old.folder }
         requires waits { Waits self.old.pending id }
         ensures says { IsAnswerOr answer result }
@@ -95,6 +95,7 @@ impl<F: Folder, S: PageStore, D: LogDevice + TellsWhy> Session<'_, F, S, D> {
         match self.keep_copy(id) {
             Ok(()) => {
                 self.pending.end(id);
+                self.placed.copy = Some(id);
                 Said::Reply(Ok(answer))
             }
             Err(fault) => {
@@ -185,6 +186,7 @@ impl<F: Folder, S: PageStore, D: LogDevice + TellsWhy> Session<'_, F, S, D> {
         match self.keep_master(point) {
             Ok(()) => {
                 self.point = None;
+                self.placed.master = true;
                 Said::Reply(Ok(point.answer()))
             }
             Err(fault) => {

@@ -6,7 +6,7 @@ ghost use Rattle.saved_files.specs.Saved.{name_of};
 ghost use Rattle.saved_files.specs.declared.saved_name.SavedName.TheVariants as saved;
 ghost use Rattle.open_database.specs.MovedAside.{IsFreed};
 
-use crate::names::MASTER;
+use crate::names::{MANIFEST, MASTER};
 use crate::place::Place;
 use crate::told::Teller;
 use copy_vault::CopyId;
@@ -69,6 +69,16 @@ pub(crate) fn move_master_aside<F: Folder>(teller: &Teller<'_>, folder: &mut F) 
     ensures claimed { F.is_claimed folder.new }
 {
     move_aside(teller, folder, MASTER, Place::Master)
+}
+
+/// The same of the manifest.
+pub(crate) fn move_manifest_aside<F: Folder>(teller: &Teller<'_>, folder: &mut F) -> io::Result<()>
+    requires { F.is_claimed folder.old }
+    ensures freed { OnOk result (IsFreed MANIFEST.now (F.entries folder.old)
+        (F.entries folder.new) (folder.new ≡ folder.old) (F.is_stored folder.new)) }
+    ensures claimed { F.is_claimed folder.new }
+{
+    move_aside(teller, folder, MANIFEST, Place::Manifest)
 }
 
 /// Gives what has this name another one, which lasts, if something has it.

@@ -14,6 +14,9 @@ pub(crate) const MASTER: &str = "master";
 /// The note of the log's end at the last clean closing.
 pub(crate) const CLOSED: &str = "closed";
 
+/// What is known of the bytes of the other files.
+pub(crate) const MANIFEST: &str = "manifest";
+
 /// Bytes that stood behind a log, before a number.
 pub(crate) const LEFT_OUT: &str = "log.left-out-";
 
@@ -57,7 +60,11 @@ pub(crate) fn is_unfinished(name: &str) -> bool {
 
 /// Whether a file of this name is written beside its name first.
 fn is_put(name: &str) -> bool {
-    name == MASTER || name == CLOSED || copy_of(name).is_some() || is_left_out(name)
+    name == MASTER
+        || name == CLOSED
+        || name == MANIFEST
+        || copy_of(name).is_some()
+        || is_left_out(name)
 }
 
 /// Whether a new database may stand beside what has this name.

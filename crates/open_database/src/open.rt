@@ -12,24 +12,24 @@ use crate::begin::begin;
 use crate::claims_soon::ClaimsSoon;
 use crate::fault::OpenFault;
 use crate::file_limit::low_limit;
+use crate::file_session::{FileSession, OpenedSession, session_in};
 use crate::first_line::FirstLine;
+use crate::found_manifest::{log_line, name_for, read_manifest};
 use crate::inventory::Inventory;
+use crate::kept_manifest::KeptManifest;
 use crate::line_reader::LineReader;
 use crate::log_file::{LogFile, of_log, open_log};
-use crate::pending::Pending;
 use crate::place::Place;
 use crate::prompt::Prompted;
 use crate::restarted::{Reopened, reopen};
-use crate::session::{ServeFault, Session};
-use crate::tally::Tally;
+use crate::session::ServeFault;
 use crate::told::Teller;
-use crate::told_store::ToldStore;
 use crate::unplaced_point::UnplacedPoint;
 use crate::volume_file::check_volume;
 use aries_core::Setup;
-use file_devices::FileLog;
 use fuzzy_ckpt::Point;
-use log_records::MAX_RECORDS;
+use log_records::{HEADER_BYTES, MAX_RECORDS};
+use manifest::Manifest;
 use page_core::write_out;
 use saved_files::Folder;
 use std::alloc::AllocError;
@@ -80,20 +80,19 @@ pub fn open_folder(rt: &HostRuntime, call: &OpenCall<'_>) -> OpenEnd
         rt,
         folder: call.folder,
     };
-    let Ok(pending) = Pending::new(rt.alloc()) else {
-        teller.tell_fault(&OpenFault::OutOfMemory, &notes);
-        return OpenEnd::Failed;
-    };
-    let mut folder = SystemFolder::new(rt, rt.alloc(), call.folder, &notes);
-    match opened(&teller, &mut folder, call, &store_notes) {
-        Ok(opened) => served(
-            &teller,
-            folder,
-            (&notes, &store_notes),
-            opened,
-            pending,
-            call,
-        ),
+    let folder = SystemFolder::new(rt, rt.alloc(), call.folder, &notes);
+    match session_in(&teller, folder, (&notes, &store_notes), call) {
+        Ok(
+            OpenedSession {
+                mut session,
+                mut kept,
+                first,
+                point,
+            },
+        ) => {
+            live(&mut session, &mut kept, first, point);
+            end_of(&session, call)
+        }
         Err(fault) => {
             teller.tell_fault(&fault, &notes);
             OpenEnd::Failed
@@ -175,7 +174,9 @@ fn begun<'a, F: Folder>(
     ensures stored { IfOk result (λ _. F.is_stored folder.new) }
     ensures claimed { F.is_claimed folder.new }
 {
+    let manifest = manifest_of_new(teller, there)?;
     let pages = count_of_new(teller, call, there)?;
+    let database = name_for(teller.rt, &manifest)?;
     let setup = Setup {
         pages,
         frames: call.frames,
@@ -187,7 +188,19 @@ fn begun<'a, F: Folder>(
         point: None,
         is_master_wrong: false,
         unread: Vec::new(teller.rt.alloc()),
+        database,
+        manifest,
+        sums: None,
     })
+}
+
+/// The manifest that stands where there is no log. It must not name one.
+fn manifest_of_new(teller: &Teller<'_>, there: &Inventory) -> Result<Option<Manifest>, OpenFault> {
+    let manifest = read_manifest(teller, there.has_manifest)?;
+    match log_line(&manifest) {
+        Some(file) if file.bytes > HEADER_BYTES as u64 => Err(OpenFault::LogLost(Place::Manifest)),
+        _ => Ok(manifest),
+    }
 }
 
 /// How many pages a new database is to have, where one may be made in this folder. What an older
@@ -213,45 +226,13 @@ fn count_of_new(
     Ok(pages)
 }
 
-/// Answers the lines of standard input.
-fn served<'a>(
-    teller: &Teller<'a>,
-    folder: SystemFolder<'a>,
-    notes: (&'a Notes, &'a Notes),
-    opened: Reopened<'a>,
-    pending: Pending,
-    call: &OpenCall<'_>,
-) -> OpenEnd {
-    let Reopened {
-        engine,
-        first,
-        point,
-        is_master_wrong,
-        unread,
-    } = opened;
-    let mut session = Session {
-        alloc: teller.rt.alloc(),
-        engine,
-        folder,
-        teller: *teller,
-        notes: notes.0,
-        store_notes: notes.1,
-        pending,
-        point: None,
-        is_master_wrong,
-        unread,
-        tally: Tally::new(),
-        has_failed: false,
-    };
-    live(&mut session, first, point);
-    end_of(&session, call)
-}
-
-/// An open database, whose log and volume are files.
-pub(crate) type FileSession<'a> = Session<'a, SystemFolder<'a>, ToldStore<'a>, FileLog>;
-
 /// Puts the master record in place, answers all lines, and closes the database.
-fn live(session: &mut FileSession<'_>, first: FirstLine, point: Option<Point>)
+fn live(
+    session: &mut FileSession<'_>,
+    kept: &mut KeptManifest,
+    first: FirstLine,
+    point: Option<Point>,
+)
     ensures lives { Lives session.old.engine.state session.new.engine.state }
     // The calls are those of the lines, and those of a closing.
     ensures lines { LivesByLines session.old.engine.state session.new.engine.state }
@@ -259,9 +240,10 @@ fn live(session: &mut FileSession<'_>, first: FirstLine, point: Option<Point>)
     let (input, output) = (Notes::new(), Notes::new());
     warn_of_room(session);
     put_point(session, point);
-    let served = serve_all(session, first, &input, &output);
+    session.keep_placed(kept);
+    let served = serve_all(session, kept, first, &input, &output);
     note_served(session, served, &input, &output);
-    session.close();
+    session.close(kept);
 }
 
 /// Tells a person that nine tenths of a log are used, if they are.
@@ -297,6 +279,7 @@ pub(crate) fn put_point(session: &mut FileSession<'_>, point: Option<Point>)
 /// Writes the first line, and answers the lines of standard input.
 fn serve_all(
     session: &mut FileSession<'_>,
+    kept: &mut KeptManifest,
     first: FirstLine,
     input: &Notes,
     output: &Notes,
@@ -324,7 +307,7 @@ fn serve_all(
     };
     let mut lines = LineReader::new(rt.alloc(), reader)?;
     write_first(session, first, &mut writer)?;
-    session.serve(&mut lines, &mut writer)
+    session.serve(&mut lines, &mut writer, kept)
 }
 
 /// Takes note of lines that came to an end before the input did, and tells why.

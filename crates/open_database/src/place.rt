@@ -1,6 +1,6 @@
 //! What stands in a folder, as it is told to a person.
 
-use crate::names::{CLOSED, LOG, MASTER, VOLUME};
+use crate::names::{CLOSED, LOG, MANIFEST, MASTER, VOLUME};
 use copy_vault::CopyId;
 use std::fmt;
 
@@ -12,6 +12,7 @@ pub(crate) enum Place {
     Volume,
     Master,
     Closed,
+    Manifest,
     Copy(CopyId),
 }
 
@@ -23,6 +24,7 @@ impl fmt::Display for Place {
             Place::Volume => write!(f, "/{VOLUME}"),
             Place::Master => write!(f, "/{MASTER}"),
             Place::Closed => write!(f, "/{CLOSED}"),
+            Place::Manifest => write!(f, "/{MANIFEST}"),
             Place::Copy(id) => write!(f, "/copy-{number}", number = id.0),
         }
     }

@@ -1,21 +1,25 @@
 //! A database of an older one's numbers, whose log begins anew.
 
-ghost use Rattle.std.specs.Prelude.{IfOk, length};
+ghost use Rattle.std.specs.Prelude.{◌≡◌, IfOk, length};
 ghost use Rattle.log_records.specs.Log.{IsPageCount};
+ghost use Rattle.open_database.specs.ClosedVolume.{IsOfClosed, IsRenewed, WasRenewed};
+ghost use Rattle.open_database.specs.declared.open.OpenEnd.TheVariants.{Failed, Well};
 
 use crate::begin::{FileEngine, begin};
 use crate::checkpoint_and_copy::checkpoint_and_copy;
 use crate::claims_soon::ClaimsSoon;
 use crate::closed_volume::{have_same_numbers, read_closed};
 use crate::fault::OpenFault;
+use crate::file_session::session_on;
 use crate::fill::{fill, records_for};
-use crate::open::{FileSession, OpenEnd, held};
+use crate::found_manifest::drawn_name;
+use crate::kept_manifest::KeptManifest;
+use crate::open::{OpenEnd, held};
 use crate::pending::Pending;
-use crate::session::Session;
-use crate::tally::Tally;
 use crate::told::Teller;
 use aries_core::Setup;
 use log_records::MAX_RECORDS;
+use manifest::DatabaseName;
 use page_core::Page;
 use saved_files::Folder;
 use std::alloc::{AllocError, Global};
@@ -47,7 +51,10 @@ const UNFINISHED: &str = ".unfinished-1";
 ///
 /// The new folder is made under another name. It gets its own once it is closed and was read again,
 /// with the same number in each slot: so it is whole, or not there.
-pub fn renew_folder(rt: &HostRuntime, call: &RenewCall<'_>) -> OpenEnd {
+pub fn renew_folder(rt: &HostRuntime, call: &RenewCall<'_>) -> OpenEnd
+    // What was read of the new database has the old one's numbers.
+    ensures { result ≡ Well → WasRenewed }
+{
     // Where a standard stream is closed, a file of the database must not get its number.
     let _held = held(rt);
     let notes = Notes::new();
@@ -62,14 +69,16 @@ pub fn renew_folder(rt: &HostRuntime, call: &RenewCall<'_>) -> OpenEnd {
     }
 }
 
-fn failed(teller: &Teller<'_>, fault: &OpenFault, notes: &Notes) -> OpenEnd {
+fn failed(teller: &Teller<'_>, fault: &OpenFault, notes: &Notes) -> OpenEnd
+    ensures { result ≡ Failed }
+{
     teller.tell_fault(fault, notes);
     OpenEnd::Failed
 }
 
 /// The pages of the old database, if they leave room in a new log.
 fn old_pages<F: ClaimsSoon>(teller: &Teller<'_>, folder: &mut F) -> Result<Vec<Page>, OpenFault>
-    ensures { IfOk result (λ pages. IsPageCount (length pages.items)) }
+    ensures { IfOk result (λ pages. IsOfClosed pages.items) }
 {
     folder.claim_or_wait()?;
     let pages = read_closed(teller)?;
@@ -86,6 +95,7 @@ fn old_pages<F: ClaimsSoon>(teller: &Teller<'_>, folder: &mut F) -> Result<Vec<P
 /// Makes a database of these pages, and gives it its name.
 fn renewed(rt: &HostRuntime, call: &RenewCall<'_>, pages: &[Page]) -> OpenEnd
     requires { IsPageCount (length pages.now) }
+    ensures { result ≡ Well → IsRenewed pages.now }
 {
     let notes = Notes::new();
     let teller = Teller {
@@ -144,6 +154,7 @@ fn put(parent: &mut SystemFolder<'_>, from: &str, name: &str) -> io::Result<()> 
 /// Makes a database of these pages in an empty folder, closes it, and reads it again.
 fn filled(teller: &Teller<'_>, pages: &[Page]) -> OpenEnd
     requires { IsPageCount (length pages.now) }
+    ensures { result ≡ Well → IsRenewed pages.now }
 {
     let end = lived(teller.rt, teller.folder, pages);
     if end != OpenEnd::Well {
@@ -175,11 +186,12 @@ fn begun<'a, F: ClaimsSoon>(
     folder: &mut F,
     pages: &[Page],
     notes: &'a Notes,
-) -> Result<(FileEngine<'a>, Pending), OpenFault>
+) -> Result<(FileEngine<'a>, Pending, DatabaseName), OpenFault>
     requires { IsPageCount (length pages.now) }
 {
     folder.claim_or_wait()?;
     let pending = Pending::new(teller.rt.alloc())?;
+    let database = drawn_name(teller.rt)?;
     let count = pages.len() as u32;
     let setup = Setup {
         pages: count,
@@ -187,7 +199,7 @@ fn begun<'a, F: ClaimsSoon>(
     };
     let mut engine = begin(teller.rt, folder, teller.folder, None, setup, notes)?;
     match fill(&mut engine, pages) {
-        Ok(()) => Ok((engine, pending)),
+        Ok(()) => Ok((engine, pending, database)),
         Err(why) => Err(OpenFault::Unfilled(why)),
     }
 }
@@ -197,26 +209,14 @@ fn finished<'a>(
     teller: &Teller<'a>,
     folder: SystemFolder<'a>,
     notes: (&'a Notes, &'a Notes),
-    begun: (FileEngine<'a>, Pending),
+    begun: (FileEngine<'a>, Pending, DatabaseName),
 ) -> OpenEnd {
-    let (engine, pending) = begun;
-    let mut session = Session {
-        alloc: teller.rt.alloc(),
-        engine,
-        folder,
-        teller: *teller,
-        notes: notes.0,
-        store_notes: notes.1,
-        pending,
-        point: None,
-        is_master_wrong: false,
-        unread: Vec::new(teller.rt.alloc()),
-        tally: Tally::new(),
-        has_failed: false,
-    };
-    let is_made = checkpoint_and_copy(&mut session, None);
-    session.close();
-    if is_made && !session.has_failed {
+    let (engine, pending, database) = begun;
+    let mut kept = KeptManifest::new(teller.rt.alloc(), database, engine.log().header_pages());
+    let mut session = session_on(teller, folder, notes, engine, pending);
+    let copied = checkpoint_and_copy(&mut session, None);
+    session.close(&mut kept);
+    if copied.is_some() && !session.has_failed {
         OpenEnd::Well
     } else {
         OpenEnd::Failed

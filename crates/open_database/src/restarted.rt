@@ -22,11 +22,12 @@ use crate::evidence::{Loss, Witness};
 use crate::fault::OpenFault;
 use crate::first_line::FirstLine;
 use crate::found_copies::{CopyFile, read_copies};
+use crate::found_manifest::{log_line, name_for, read_manifest};
 use crate::found_master::{FoundMaster, read_master};
 use crate::inventory::Inventory;
 use crate::left_out::put_aside;
 use crate::log_file::LogFile;
-use crate::moved_aside::{move_copy_aside, move_master_aside};
+use crate::moved_aside::{move_copy_aside, move_manifest_aside, move_master_aside};
 use crate::open::OpenCall;
 use crate::place::Place;
 use crate::told::Teller;
@@ -38,6 +39,7 @@ use fuzzy_ckpt::{Point, checkpoints_of};
 use log_front::Front;
 use log_records::Record;
 use log_store::LogImage;
+use manifest::{DatabaseName, Manifest, Sums};
 use page_core::Lsn;
 use saved_files::Folder;
 use std::alloc::{AllocError, Global};
@@ -54,6 +56,11 @@ pub(crate) struct Reopened<'a> {
     pub is_master_wrong: bool,
     /// The ids of copies that could not be read. They are not given.
     pub unread: Vec<u32>,
+    /// The name of the database, and the manifest that was found.
+    pub database: DatabaseName,
+    pub manifest: Option<Manifest>,
+    /// The sum of the log's bytes that this names, if it names some.
+    pub sums: Option<Sums>,
 }
 
 /// What was found in a folder, before anything is changed there.
@@ -67,6 +74,7 @@ struct Remains {
 #[derive(Drop)]
 pub(crate) struct Others {
     pub note: Option<ClosedNote>,
+    pub manifest: Option<Manifest>,
     pub master: FoundMaster,
     pub copies: Vec<CopyFile>,
 }
@@ -89,9 +97,12 @@ pub(crate) fn reopen<'a, F: Folder>(
     ensures claimed { F.is_claimed folder.new }
 {
     let mut remains = find(teller, log, there)?;
-    prepare(teller, folder, call, there, &mut remains)?;
+    let database = name_for(teller.rt, &remains.others.manifest)?;
+    let sums = prepare(teller, folder, call, there, &mut remains)?;
     let Remains { log, others } = remains;
-    go_on(teller, folder, call, log, others, notes)
+    let mut opened = go_on(teller, folder, call, log, (others, database), notes)?;
+    opened.sums = sums;
+    Ok(opened)
 }
 
 /// Reads what stands in a folder. It writes nothing.
@@ -116,10 +127,12 @@ pub(crate) fn find_others(teller: &Teller<'_>, there: &Inventory) -> Result<Othe
         map (λ file. file.id) it.copies.items ≡ there.now.copies.items) }
 {
     let note = note_there(teller, there)?;
+    let manifest = read_manifest(teller, there.has_manifest)?;
     let master = read_master(teller, there.has_master)?;
     let copies = read_copies(teller, &there.copies)?;
     Ok(Others {
         note,
+        manifest,
         master,
         copies,
     })
@@ -138,19 +151,20 @@ fn note_there(teller: &Teller<'_>, there: &Inventory) -> Result<Option<ClosedNot
 }
 
 /// Sees that what was found may be opened, and makes the folder ready for a new life. Until nothing
-/// is found to be wrong, nothing is changed there.
+/// is found to be wrong, nothing is changed there. Answers the sum of the log's bytes that the manifest
+/// names, if it names some.
 fn prepare<F: Folder>(
     teller: &Teller<'_>,
     folder: &mut F,
     call: &OpenCall<'_>,
     there: &Inventory,
     remains: &mut Remains,
-) -> Result<(), OpenFault>
+) -> Result<Option<Sums>, OpenFault>
     requires lasting { LastsOnFile remains.old.log.front.log remains.old.log.device }
     requires claimed { F.is_claimed folder.old }
     ensures whole { OnOk result (call.now.salvage ≡ false
         → LacksNothing (end_of remains.old.log.front.log)
-        remains.old.others.note (spelled remains.old.others.master)
+        remains.old.others.note remains.old.others.manifest (spelled remains.old.others.master)
         remains.old.others.copies.items remains.old.log.bytes.items) }
     ensures log { remains.new.log.front.log ≡ remains.old.log.front.log }
     ensures others { remains.new.others ≡ remains.old.others }
@@ -166,10 +180,11 @@ fn prepare<F: Folder>(
 {
     check_count(call, remains.log.front.log().page_count())?;
     check_volume(teller.rt, call.folder)?;
-    let loss = check_loss(teller, call, remains)?;
+    let (loss, sums) = check_loss(teller, call, remains)?;
     there.clear(teller.rt)?;
     silence(teller, folder, &loss)?;
-    settle(teller, folder, there, remains)
+    settle(teller, folder, there, remains)?;
+    Ok(sums)
 }
 
 /// Whether the volume has as many pages as were told, if a count was told.
@@ -186,41 +201,43 @@ fn check_loss(
     teller: &Teller<'_>,
     call: &OpenCall<'_>,
     remains: &Remains,
-) -> Result<Loss, OpenFault>
+) -> Result<(Loss, Option<Sums>), OpenFault>
     ensures { OnOk result (call.now.salvage ≡ false
         → LacksNothing (end_of remains.now.log.front.log)
-        remains.now.others.note (spelled remains.now.others.master)
+        remains.now.others.note remains.now.others.manifest (spelled remains.now.others.master)
         remains.now.others.copies.items remains.now.log.bytes.items) }
 {
     let (found, others) = (&remains.log, &remains.others);
-    let loss = loss_of(teller.rt.alloc(), &found.front, &found.bytes, others)?;
+    let (loss, sums) = loss_of(teller.rt.alloc(), &found.front, &found.bytes, others)?;
     if loss.claims.is_empty() {
-        return Ok(loss);
+        return Ok((loss, sums));
     }
     if call.salvage {
         teller.tell_loss(&loss);
-        return Ok(loss);
+        return Ok((loss, sums));
     }
     Err(OpenFault::Lost(loss))
 }
 
-/// Hears all that knows how far a log went whose front in these bytes this is.
+/// Hears all that knows how far a log went whose front in these bytes this is. Answers the sum of the
+/// bytes that the manifest names, too, if the log has them.
 pub(crate) fn loss_of(
     alloc: Global,
     front: &Front,
     bytes: &[u8],
     others: &Others,
-) -> Result<Loss, AllocError>
-    ensures { IfOk result (λ loss. loss.claims.items ≡ []
-        → LacksNothing (end_of front.now.log) others.now.note (spelled others.now.master)
-        others.now.copies.items bytes.now) }
+) -> Result<(Loss, Option<Sums>), AllocError>
+    ensures { IfOk result (λ it. it.0.claims.items ≡ []
+        → LacksNothing (end_of front.now.log) others.now.note others.now.manifest
+        (spelled others.now.master) others.now.copies.items bytes.now) }
 {
     let mut loss = Loss::new(alloc, front.log().end(), front.cut());
     loss.hear_note(others.note)?;
+    let sums = loss.hear_manifest(log_line(&others.manifest), bytes)?;
     loss.hear_master(others.master.spelled())?;
     loss.hear_copies(&others.copies)?;
     loss.look_behind(bytes)?;
-    Ok(loss)
+    Ok((loss, sums))
 }
 
 /// Gives other names to the files that know of more than the log has, so that the next opening is
@@ -231,6 +248,7 @@ fn silence<F: Folder>(teller: &Teller<'_>, folder: &mut F, loss: &Loss) -> Resul
 {
     for claim in loss.claims.as_slice() {
         let moved = match claim.witness {
+            Witness::Manifest | Witness::Changed => move_manifest_aside(teller, folder),
             Witness::Master => move_master_aside(teller, folder),
             Witness::Begin(id) | Witness::Page(id, _) => {
                 move_copy_aside(teller, folder, id).map(|_| ())
@@ -338,21 +356,24 @@ fn go_on<'a, F: Folder>(
     folder: &mut F,
     call: &OpenCall<'_>,
     found: FoundLog,
-    others: Others,
+    beside: (Others, DatabaseName),
     notes: &'a Notes,
 ) -> Result<Reopened<'a>, OpenFault>
     requires frames { IsFrameCount call.now.frames }
     requires lasting { LastsOnFile found.front.log found.device }
     requires claimed { F.is_claimed folder.old }
     ensures goes_on { IfOk result (λ it.
-        GoesOnWith found.front.log others.copies.items it.engine.state) }
-    ensures unread { IfOk result (λ it. it.unread.items ≡ ids_unread others.copies.items) }
+        GoesOnWith found.front.log beside.0.copies.items it.engine.state) }
+    ensures unread { IfOk result (λ it. it.unread.items ≡ ids_unread beside.0.copies.items) }
     ensures claimed { F.is_claimed folder.new }
 {
+    let (others, database) = beside;
     let facts = Facts::of(found.front.log(), &others.master);
+    let end = found.front.log().end();
     let (mut restarted, device) = restart_on(teller.rt.alloc(), found)?;
     let first = facts.first_line(&restarted);
-    let (store, unread) = equip(teller, folder, call, &mut restarted, others.copies, notes)?;
+    let copies = others.copies;
+    let (store, unread) = equip(teller, folder, call, &mut restarted, end, copies, notes)?;
     let engine = restarted.into_engine(teller.rt.alloc(), call.frames, store, device)?;
     Ok(Reopened {
         engine,
@@ -360,6 +381,9 @@ fn go_on<'a, F: Folder>(
         point: facts.unnamed,
         is_master_wrong: facts.is_master_wrong,
         unread,
+        database,
+        manifest: others.manifest,
+        sums: None,
     })
 }
 
@@ -418,25 +442,26 @@ fn restart_on(alloc: Global, found: FoundLog) -> Result<(Restarted, FileLog), Op
     }
 }
 
-/// Takes up the copies that are sound, and makes the volume. Answers the ids of copies that could
-/// not be read, too.
+/// Takes up the copies that are sound and know of nothing past the end that the log had, and makes
+/// the volume. Answers the ids of copies that could not be read, too.
 fn equip<'a, F: Folder>(
     teller: &Teller<'_>,
     folder: &mut F,
     call: &OpenCall<'_>,
     restarted: &mut Restarted,
+    end: Lsn,
     copies: Vec<CopyFile>,
     notes: &'a Notes,
 ) -> Result<(ToldStore<'a>, Vec<u32>), OpenFault>
     requires counted { IsPageCount (page_count restarted.old.log) }
     requires claimed { F.is_claimed folder.old }
     ensures log { restarted.new.log ≡ restarted.old.log }
-    ensures taken { OnOk result (TakesUp restarted.old copies.items restarted.new) }
+    ensures taken { OnOk result (TakesUp end restarted.old copies.items restarted.new) }
     ensures unread { IfOk result (λ it. it.1.items ≡ ids_unread copies.items) }
     ensures store { IfOk result (λ it. it.0.store.pages ≡ restarted.new.pages) }
     ensures claimed { F.is_claimed folder.new }
 {
-    let unread = take_up(teller, restarted, copies)?;
+    let unread = take_up(teller, restarted, end, copies)?;
     let pages = store_of(teller.rt.alloc(), restarted.pages())?;
     match volume_of(teller.rt, folder, call.folder, pages, notes) {
         Ok(store) => Ok((store, unread)),

@@ -1,8 +1,8 @@
 //! What a line is answered.
 
-ghost use Rattle.std.specs.Prelude.{IfErr, OnOk};
+ghost use Rattle.std.specs.Prelude.{◌≡◌, false, IfErr, OnOk};
 ghost use Rattle.std.specs.Io.KnownBytes.{Appends};
-ghost use Rattle.open_database.specs.Said.{said_line};
+ghost use Rattle.open_database.specs.Said.{IsAnswer, said_line};
 ghost use Rattle.open_database.specs.Session.{LeavesLine};
 
 use crate::session::ServeFault;
@@ -26,7 +26,9 @@ pub(crate) enum Said {
 
 impl Said {
     /// Whether the call was refused, or did not come to its end.
-    pub fn is_refused(&self) -> bool {
+    pub fn is_refused(&self) -> bool
+        ensures { result ≡ false → IsAnswer self.now }
+    {
         !matches!(self, Said::Reply(Ok(_)))
     }
 

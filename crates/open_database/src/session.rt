@@ -9,10 +9,12 @@ ghost use Rattle.open_database.specs.Session.{LeavesTaken, Says, Serves, Takes, 
 
 use crate::bad_call::{BadCall, LineTrouble};
 use crate::call_kind::CallKind;
+use crate::kept_manifest::KeptManifest;
 use crate::line_reader::{LineReader, NextLine};
 use crate::order::{Order, said_in, said_unended};
 use crate::pending::Pending;
 use crate::place::Place;
+use crate::placed::Placed;
 use crate::said::{Said, write_said};
 use crate::tally::Tally;
 use crate::told::Teller;
@@ -70,6 +72,8 @@ pub(crate) struct Session<'a, F: Folder, S: PageStore, D: LogDevice> {
     pub pending: Pending,
     /// The checkpoint whose master record is not in place.
     pub point: Option<UnplacedPoint>,
+    /// The files that were put in place, and are to be named in the manifest.
+    pub placed: Placed,
     /// What stands as the master record names no checkpoint of the log.
     pub is_master_wrong: bool,
     /// The ids that are not given, since their files could not be read.
@@ -106,11 +110,13 @@ fn write_bad<W: Write>(
 
 impl<F: Folder, S: PageStore, D: LogDevice + TellsWhy> Session<'_, F, S, D> {
     /// Takes the lines of the input one after another, to its end, or to a `quit`. Each is answered
-    /// by one line or more, but for those that say nothing.
+    /// by one line or more, but for those that say nothing. The manifest names a file that a line put
+    /// in place once that line is answered.
     pub fn serve<R: Read + Drop, W: Write>(
         &mut self,
         lines: &mut LineReader<R>,
         writer: &mut W,
+        kept: &mut KeptManifest,
     ) -> Result<(), ServeFault>
         requires { F.is_claimed self.old.folder }
         ensures served { OnOk result (Serves self.old.engine.state self.new.engine.state
@@ -135,6 +141,7 @@ impl<F: Folder, S: PageStore, D: LogDevice + TellsWhy> Session<'_, F, S, D> {
                 NextLine::End => return Ok(()),
                 NextLine::Failed => return Err(ServeFault::ReadFault),
             }
+            self.keep_placed(kept);
         }
         Ok(())
     }

@@ -2,6 +2,7 @@
 
 use crate::evidence::Loss;
 use crate::fault::OpenFault;
+use crate::found_manifest::RANDOM;
 use crate::place::Place;
 use crate::session::ServeFault;
 use engine_restart::{FoundFault, RestartFault};
@@ -9,6 +10,7 @@ use event_script::ReplyLine;
 use log_front::{Cut, CutReason};
 use log_records::MAX_LOG_BYTES;
 use log_store::LogReadFault;
+use manifest::ManifestFault;
 use page_core::FaultName;
 use saved_files::FileFault;
 use std::fmt::Display;
@@ -121,6 +123,8 @@ impl Teller<'_> {
             OpenFault::System(place, code) => self.tell_system(*place, *code),
             OpenFault::Lost(loss) => self.tell_lost(loss),
             OpenFault::Unput(place, why) => self.tell_unkept(*place, *why, notes),
+            OpenFault::BadManifest(why) => self.tell_bad_manifest(why),
+            OpenFault::NoName(code) => self.tell_unnamed(*code),
             OpenFault::LogLost(place) => self.tell(*place, &"this is there, but no log"),
             OpenFault::NotAside(why) => match notes.error() {
                 Some(error) => self.tell_not_aside(&error),
@@ -213,6 +217,24 @@ impl Teller<'_> {
             Place::Folder,
             &"records that were forced are missing, and nothing was changed: keep a copy of the folder; --salvage opens what is left",
         );
+    }
+
+    fn tell_bad_manifest(&self, why: &ManifestFault) {
+        self.tell(
+            Place::Manifest,
+            &format_args!("{why}: move it away, and open again; the database gets a new name then"),
+        );
+    }
+
+    /// Tells that no name of a database was drawn.
+    fn tell_unnamed(&self, code: Option<i32>) {
+        let _ = match code {
+            Some(code) => {
+                let error = io::Error::from_raw_os_error(code);
+                eprintln!(self.rt; "imgcopy: {RANDOM}: {error}")
+            }
+            None => eprintln!(self.rt; "imgcopy: {RANDOM}: it gives too few bytes"),
+        };
     }
 
     fn tell_count(&self, there: u32, told: u32) {

@@ -1,107 +1,153 @@
-//! A copy of all pages, which is made at once.
+//! A copy of all pages, which is made by one word.
+
+ghost use Rattle.std.specs.Prelude.{ℕ, ◌≡◌, ◌≢◌, IfSome, None, Ok};
+ghost use Rattle.engine_calls.specs.declared.event.Answer.TheVariants.{Copied, Sealed};
+ghost use Rattle.open_database.specs.Calls.{Makes, copy_call};
+ghost use Rattle.open_database.specs.MadeFiles.{HasPlaced, HasStored, IsCopyInPlace, IsCopyStored};
+ghost use Rattle.open_database.specs.WordCopies.{BeginsAndFills, FillsCopy, SealsCopy};
+ghost use Rattle.open_database.specs.Words.{MakesWord, Runs, one_line};
+ghost use Rattle.open_database.specs.declared.word.Word.TheVariants as word;
 
 use crate::made_files::copied_id;
-use crate::place::Place;
+use crate::page_takes::take_or_drop;
 use crate::said::Said;
 use crate::session::{Session, TellsWhy};
-use aries_core::{Event, Refusal};
+use crate::word_said::WordSaid;
+use aries_core::{Answer, Event};
 use copy_vault::{CopyId, Vault};
 use image_copies::MAX_COPIES;
+use log_records::RECORD_BYTES;
 use log_store::LogDevice;
 use page_core::PageNo;
 use page_store::PageStore;
 use saved_files::Folder;
 
 impl<F: Folder, S: PageStore, D: LogDevice + TellsWhy> Session<'_, F, S, D> {
-    /// Makes a copy of all pages, on this one or a full one, and puts its file in place. Answers what
-    /// is said of its sealing; or of the call that was refused, and then the copy is dropped. A page
-    /// that cannot be read is repaired from the newest copy first.
-    pub(crate) fn whole_copy(&mut self, on: Option<u32>) -> Said
+    /// Makes a whole copy, a full one or one on this parent, behind a checkpoint that is new. Where a
+    /// call is refused, none is made behind it but the one that drops the copy.
+    pub(crate) fn copy(&mut self, parent: Option<u32>) -> WordSaid
         requires { F.is_claimed self.old.folder }
+        ensures made { MakesWord (word.Copy parent) self.old.engine.state (one_line result)
+            self.new.engine.state }
+        // Where a copy is told, its file is in place, and its name lasts.
+        ensures in_place { HasPlaced (word.Copy parent) (one_line result) self.new.engine.state
+            (F.entries self.new.folder) }
+        ensures stored { HasStored (word.Copy parent) (one_line result)
+            (F.is_stored self.new.folder) }
         ensures claimed { F.is_claimed self.new.folder }
     {
-        let begun = match on {
-            Some(parent) => self.begin_increment(parent),
-            None => self.begin_copy(None),
+        if self.is_point_new() {
+            return self.copy_behind(parent);
+        }
+        match self.checkpoint() {
+            Said::Reply(Ok(_)) => self.copy_behind(parent),
+            Said::Reply(Err(why)) => WordSaid::Call(Said::Reply(Err(why))),
+            Said::Unplaced(why) => WordSaid::Call(Said::Unplaced(why)),
+        }
+    }
+
+    /// Whether the log ends with the last checkpoint, whose redo point is its begin and whose master
+    /// record is in place, and no page is dirty: another one would begin redo at nothing later.
+    fn is_point_new(&self) -> bool {
+        let Some(point) = self.engine.master() else {
+            return false;
         };
+        let behind = self.engine.log_end().0.saturating_sub(point.end.0);
+        let is_last = behind == RECORD_BYTES as u64;
+        let is_clean = self.engine.dirty_from(PageNo(0)).is_none();
+        self.point.is_none() && is_last && point.redo == point.begin && is_clean
+    }
+
+    /// Begins a copy, has it take its pages, and makes it complete.
+    fn copy_behind(&mut self, parent: Option<u32>) -> WordSaid
+        requires { F.is_claimed self.old.folder }
+        ensures made { Runs (λ events replies. BeginsAndFills parent events replies result)
+            self.old.engine.state self.new.engine.state }
+        ensures in_place { IsCopyInPlace result self.new.engine.state
+            (F.entries self.new.folder) }
+        ensures stored { IsCopyStored result (F.is_stored self.new.folder) }
+        ensures claimed { F.is_claimed self.new.folder }
+    {
+        let begun = self.begin_on(parent);
         match id_of(&begun) {
-            Some(id) => self.filled_copy(id),
-            None => begun,
+            Some(id) => self.fill(id),
+            None => WordSaid::Call(begun),
         }
     }
 
-    /// Takes each page into a copy that was begun, and seals it.
-    fn filled_copy(&mut self, id: u32) -> Said
+    /// Begins a full copy, or one on this parent.
+    fn begin_on(&mut self, parent: Option<u32>) -> Said
+        ensures made { Makes (copy_call parent) self.old.engine.state result
+            self.new.engine.state }
+        ensures folder { self.new.folder ≡ self.old.folder }
+    {
+        match parent {
+            None => self.begin_copy(None),
+            Some(id) => self.begin_increment(id),
+        }
+    }
+
+    /// Has a copy that was begun take its pages, and makes it complete.
+    fn fill(&mut self, id: u32) -> WordSaid
         requires { F.is_claimed self.old.folder }
+        ensures made { Runs (λ events replies. FillsCopy id events replies result)
+            self.old.engine.state self.new.engine.state }
+        ensures in_place { IsCopyInPlace result self.new.engine.state
+            (F.entries self.new.folder) }
+        ensures stored { IsCopyStored result (F.is_stored self.new.folder) }
         ensures claimed { F.is_claimed self.new.folder }
     {
-        match self.take_pages(id) {
-            Ok(()) => self.made(Event::Seal(CopyId(id))),
-            Err(refused) => {
-                let _dropped = self.made(Event::DropCopy(CopyId(id)));
-                refused
+        match take_or_drop(&mut self.engine, &self.teller, id) {
+            Ok(pages) => self.finish(id, pages),
+            Err(why) => WordSaid::Call(Said::Reply(Err(why))),
+        }
+    }
+
+    /// Makes a copy complete that took so many pages, and puts its file in place.
+    fn finish(&mut self, id: u32, pages: u32) -> WordSaid
+        requires { F.is_claimed self.old.folder }
+        ensures made { Runs (λ events replies. SealsCopy id pages events replies result)
+            self.old.engine.state self.new.engine.state }
+        ensures in_place { IsCopyInPlace result self.new.engine.state
+            (F.entries self.new.folder) }
+        ensures stored { IsCopyStored result (F.is_stored self.new.folder) }
+        ensures claimed { F.is_claimed self.new.folder }
+    {
+        match self.complete(id) {
+            Ok(answer) => match self.place_sealed(id, answer) {
+                Said::Reply(_) => WordSaid::Copied {
+                    id,
+                    pages,
+                    taken: taken_of(&answer),
+                },
+                Said::Unplaced(why) => WordSaid::Call(Said::Unplaced(why)),
+            },
+            Err(why) => {
+                let _ = self.engine.apply(Event::DropCopy(CopyId(id)));
+                WordSaid::Call(Said::Reply(Err(why)))
             }
-        }
-    }
-
-    fn take_pages(&mut self, id: u32) -> Result<(), Said>
-        requires { F.is_claimed self.old.folder }
-        ensures claimed { F.is_claimed self.new.folder }
-    {
-        for number in 0..self.engine.log().pages() {
-            if let Err(refused) = self.take_page(id, PageNo(number)) {
-                return Err(refused);
-            }
-        }
-        Ok(())
-    }
-
-    /// Takes a page. One that cannot be read is repaired, and then taken.
-    fn take_page(&mut self, id: u32, page: PageNo) -> Result<(), Said>
-        requires { F.is_claimed self.old.folder }
-        ensures claimed { F.is_claimed self.new.folder }
-    {
-        match self.made(Event::Take {
-            copy: CopyId(id),
-            page,
-        }) {
-            Said::Reply(Ok(_)) => Ok(()),
-            Said::Reply(Err(Refusal::StoreFault)) => self.repair_and_take(id, page),
-            refused => Err(refused),
-        }
-    }
-
-    fn repair_and_take(&mut self, id: u32, page: PageNo) -> Result<(), Said>
-        requires { F.is_claimed self.old.folder }
-        ensures claimed { F.is_claimed self.new.folder }
-    {
-        let Some(copy) = newest(self.engine.copies()) else {
-            return Err(Said::Reply(Err(Refusal::StoreFault)));
-        };
-        match self.made(Event::Repair { copy, page }) {
-            Said::Reply(Ok(_)) => {}
-            refused => return Err(refused),
-        }
-        let (number, of) = (page.0, copy.0);
-        self.teller.tell(
-            Place::Volume,
-            &format_args!("page {number} could not be read, and was repaired from `copy-{of}`"),
-        );
-        match self.made(Event::Take {
-            copy: CopyId(id),
-            page,
-        }) {
-            Said::Reply(Ok(_)) => Ok(()),
-            refused => Err(refused),
         }
     }
 }
 
-/// The id of the copy that was begun, if one was.
-fn id_of(said: &Said) -> Option<u32> {
+/// The id of the new copy that is said, if one is.
+fn id_of(said: &Said) -> Option<u32>
+    ensures found { IfSome result (λ id. said.now ≡ Said.Reply (Ok (Copied id))) }
+    ensures none { result ≡ None → (id : ℕ) → said.now ≢ Said.Reply (Ok (Copied id)) }
+{
     match said {
         Said::Reply(reply) => copied_id(reply),
         Said::Unplaced(_) => None,
+    }
+}
+
+/// How many pages a copy took, as the call that made it complete is answered.
+fn taken_of(answer: &Answer) -> u32
+    ensures { (count : ℕ) → answer.now ≡ Sealed count → result ≡ count }
+{
+    match answer {
+        Answer::Sealed(count) => *count,
+        _ => 0,
     }
 }
 

@@ -1,9 +1,13 @@
 //! Words of an operator, which no script has.
 
-ghost use Rattle.std.specs.Prelude.{IfOk, IfSome, IsTrue, codes};
+ghost use Rattle.std.specs.Prelude.{◌≡◌, IfOk, IfSome, IsTrue, Some, codes};
+ghost use Rattle.event_script.specs.Words.{number_of};
 ghost use Rattle.open_database.specs.Words.{IsSpelled, Spells, SpellsText};
 
 use crate::bad_call::LineTrouble;
+
+/// How many digits a number of a script has at most.
+const MAX_DIGITS: usize = 20;
 
 /// A word of an operator, which is no call of a script.
 #[derive(Clone, Copy)]
@@ -12,6 +16,8 @@ pub(crate) enum Word {
     Checkpoint,
     /// Each dirty page is written.
     Flush,
+    /// A whole copy is made, a full one or one on a complete copy, behind a checkpoint that is new.
+    Copy(Option<u32>),
     /// What the database has is told.
     Status,
     /// The words and the calls are told.
@@ -49,8 +55,37 @@ fn lone_word(text: &[u8]) -> Option<Word>
     } else if text == b"help".as_slice() {
         Some(Word::Help)
     } else {
-        None
+        copy_word(text)
     }
+}
+
+/// The word of a copy that this text is.
+fn copy_word(text: &[u8]) -> Option<Word>
+    ensures { IfSome result (IsSpelled text.now) }
+{
+    if text == b"copy".as_slice() {
+        return Some(Word::Copy(None));
+    }
+    let digits = text.strip_prefix(b"copy on ".as_slice())?;
+    let number = copy_number(digits)?;
+    Some(Word::Copy(Some(number)))
+}
+
+/// The number of a copy that these digits are, as the calls of a script have it.
+fn copy_number(digits: &[u8]) -> Option<u32>
+    ensures { IfSome result (λ number. number_of digits.now ≡ Some number) }
+{
+    if digits.len() == 0 || digits.len() > MAX_DIGITS {
+        return None;
+    }
+    let mut number: u32 = 0;
+    for byte in digits {
+        if !byte.is_ascii_digit() {
+            return None;
+        }
+        number = number.checked_mul(10)?.checked_add((*byte - b'0') as u32)?;
+    }
+    Some(number)
 }
 
 /// What stands before the first space.
@@ -65,6 +100,7 @@ fn first_word(text: &[u8]) -> &[u8] {
 fn trouble_of(first: &[u8]) -> Option<LineTrouble> {
     match first {
         b"checkpoint" | b"flush" | b"status" | b"help" | b"quit" => Some(LineTrouble::NotAlone),
+        b"copy" => Some(LineTrouble::NoCopyWord),
         _ => None,
     }
 }

@@ -1,7 +1,8 @@
 //! What a word of an operator is answered.
 
-ghost use Rattle.std.specs.Prelude.{IfErr, OnOk};
+ghost use Rattle.std.specs.Prelude.{◌≡◌, IfErr, IfSome, None, OnOk};
 ghost use Rattle.std.specs.Io.KnownBytes.{Appends};
+ghost use Rattle.open_database.specs.Backups.{IsCopied, IsToldWell};
 ghost use Rattle.open_database.specs.Session.{LeavesLine};
 ghost use Rattle.open_database.specs.Words.{one_line, text_of};
 
@@ -19,13 +20,33 @@ pub(crate) enum WordSaid {
     Call(Said),
     /// So many writes of pages have ended.
     Flushed(u32),
+    /// A copy is complete, and its file is in place.
+    Copied {
+        id: u32,
+        /// How many pages it has.
+        pages: u32,
+        /// How many of them it took itself.
+        taken: u32,
+    },
 }
 
 impl WordSaid {
     /// What is said of the call that was refused, or whose file is not in place, if one is.
-    pub fn refused(&self) -> Option<Said> {
+    pub fn refused(&self) -> Option<Said>
+        ensures { result ≡ None → IsToldWell self.now }
+    {
         match self {
             WordSaid::Call(said) if said.is_refused() => Some(*said),
+            _ => None,
+        }
+    }
+
+    /// The id of the copy that was made, if one was.
+    pub fn copied(&self) -> Option<u32>
+        ensures { IfSome result (λ id. IsCopied id self.now) }
+    {
+        match self {
+            WordSaid::Copied { id, .. } => Some(*id),
             _ => None,
         }
     }
@@ -41,6 +62,9 @@ impl fmt::Display for WordSaid {
         match self {
             WordSaid::Call(said) => write!(f, "{said}"),
             WordSaid::Flushed(count) => write!(f, "flushed {count}"),
+            WordSaid::Copied { id, pages, taken } => {
+                write!(f, "copy {id} pages {pages} taken {taken}")
+            }
         }
     }
 }

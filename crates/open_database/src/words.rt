@@ -43,6 +43,10 @@ impl<F: Folder, S: PageStore, D: LogDevice + TellsWhy> Session<'_, F, S, D> {
                 let said = self.flush();
                 self.answer_word(number, &said, writer)
             }
+            Word::Copy(parent) => {
+                let said = self.copy(parent);
+                self.answer_word(number, &said, writer)
+            }
             Word::Status => self.tell_status(number, writer),
             Word::Help => {
                 self.tally.note(number, false);

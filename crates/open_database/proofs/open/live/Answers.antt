@@ -1,4 +1,4 @@
-use Rattle.std.proofs.Common.{subst}
+use Rattle.std.proofs.Common.{subst, ◌∙◌}
 use Rattle.open_database.proofs.Served.{by_lines, by_lines_lives}
 use Rattle.open_database.specs.Calls.{IsAnyReply, IsOfClosing, RunsBy}
 use Rattle.open_database.specs.Session.{ServesLines}
@@ -7,7 +7,7 @@ use Rattle.open_database.proofs.open.live.Goals.{After-close}
 
 served : (c : After-close) → ServesLines c.args.session.now.engine.state c.serve_all-served.new.session.engine.state
 served c =
-    subst (λ engine. ServesLines engine.state c.serve_all-served.new.session.engine.state) c.put_point.ensures
+    subst (λ engine. ServesLines engine.state c.serve_all-served.new.session.engine.state) (c.keep_placed.ensures.engine ∙ c.put_point.ensures)
     c.serve_all-served.ensures
 
 closed : (c : After-close)

@@ -1,4 +1,5 @@
-use Rattle.std.proofs.Common.{ap, subst}
+use Rattle.std.proofs.Common.{ap, subst, ◌∙◌}
+use Rattle.log_front.specs.Front.{end_of}
 use Rattle.log_records.specs.Log.{IsLog}
 use Rattle.engine_rules.specs.EngineState.{EngineState}
 use Rattle.open_database.proofs.Reopened.{goes_on_with, is_counted}
@@ -11,7 +12,7 @@ equip-requires-clause-counted g c =
 
 pub returns-clause-goes_on : goal.returns-clause-goes_on
 returns-clause-goes_on g c =
-    goes_on_with c.args.found.front.log c.args.others.copies.items c.in_ok-restarted.restarted c.equip.new.restarted
-    c.in_ok-engine.engine.state c.in_ok-restarted.ensures.log c.in_ok-restarted.ensures.copies c.equip.ensures.log
+    goes_on_with c.args.found.front.log c.end-end.result c.args.beside.0.copies.items c.in_ok-restarted.restarted
+    c.equip.new.restarted c.in_ok-engine.engine.state (c.end-end.ensures ∙ ap end_of c.log-2.ensures.log) c.in_ok-restarted.ensures.log c.in_ok-restarted.ensures.copies c.equip.ensures.log
     c.in_ok-store.ensures.taken c.in_ok-engine.ensures.goes_on
     (ap (λ (s : EngineState). s.copies) c.in_ok-engine.ensures.state)

@@ -1,0 +1,17 @@
+use Rattle.std.proofs.Common.{◌≡◌, subst}
+use Rattle.std.specs.Prelude.{OnOk}
+use Rattle.saved_files.specs.Folder.{Changes, Puts}
+use Rattle.open_database.proofs.Puts.{put_and_synced}
+use Rattle.open_database.proofs.left_out.put_aside.Goals as goal
+
+pub returns-clause-kept : goal.returns-clause-kept
+returns-clause-kept g c worth =
+    let name = c.as_str.result.now in
+    let entries = g.F.Folder.entries in (
+      name,
+      put_and_synced name (λ it. it ≡ c.args.bytes.now) (entries c.args.folder.now)
+          (entries c.put_in_place-put.new.folder) (entries c.sync_names.new.self)
+          (subst (λ r. OnOk r (Changes (Puts name (λ it. it ≡ c.args.bytes.now)) (entries c.args.folder.now)
+          (entries c.put_in_place-put.new.folder))) c.in_default.is c.put_in_place-put.ensures.put)
+          c.sync_names.ensures.same,
+    )

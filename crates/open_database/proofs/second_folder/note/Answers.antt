@@ -1,0 +1,20 @@
+use Rattle.std.proofs.Common.{◌≡◌, List, ℕ, refl, subst, ◌∙◌, Some}
+use Rattle.manifest.specs.Entries.{file_of}
+use Rattle.manifest.specs.declared.entry.FileSum.{FileSum}
+use Rattle.open_database.proofs.second_folder.note.Goals as goal
+
+pub returns-in-Ok : goal.returns-in-Ok
+returns-in-Ok c =
+    let file : FileSum = record {
+      extent = c.match-name.extent;
+      bytes = c.sum_of-bytes.result.bytes;
+      sum = c.sum_of-bytes.result.sum;
+    } in
+    record {
+      file = file;
+      there = subst (λ (name : List ℕ). file_of name c.note_file.new.manifest.entries ≡ Some file)
+          (c.as_str.ensures.value ∙ c.in_ok-text.ensures.ok) c.in-Ok.ensures.there;
+      bytes = c.args.bytes.now;
+      right = refl;
+      sum = c.sum_of-bytes.ensures;
+    }

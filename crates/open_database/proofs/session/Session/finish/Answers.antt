@@ -1,0 +1,28 @@
+use Rattle.std.proofs.Common.{subst, sym}
+use Rattle.open_database.proofs.WordCopies.{seals, seals_not, seals_unplaced}
+use Rattle.open_database.specs.WordCopies.{SealsCopy}
+use Rattle.open_database.specs.Words.{Runs}
+use Rattle.open_database.specs.declared.word_said.WordSaid.TheVariants.{Call, Copied}
+use Rattle.open_database.specs.declared.said.Said.TheVariants.{Unplaced}
+use Rattle.open_database.proofs.session.Session.finish.Goals as goal
+
+pub returns-in-Reply-clause-made : goal.returns-in-Reply-clause-made
+returns-in-Reply-clause-made g c =
+    subst (λ engine. Runs (λ events replies. SealsCopy c.args.id c.args.pages events replies
+    (Copied c.args.id c.args.pages c.taken_of.result)) c.args.self.now.engine.state engine.state)
+    (sym c.place_sealed.ensures.engine)
+    (seals c.args.id c.args.pages c.taken_of.result c.args.self.now.engine.state c.complete.new.self.engine.state
+    c.in-Ok.answer c.in-Ok.ensures.step c.taken_of.ensures)
+
+pub returns-in-Unplaced-clause-made : goal.returns-in-Unplaced-clause-made
+returns-in-Unplaced-clause-made g c =
+    subst (λ engine. Runs (λ events replies. SealsCopy c.args.id c.args.pages events replies
+    (Call (Unplaced c.in-Unplaced.why))) c.args.self.now.engine.state engine.state)
+    (sym c.place_sealed.ensures.engine)
+    (seals_unplaced c.args.id c.args.pages c.args.self.now.engine.state c.complete.new.self.engine.state c.in-Ok.answer
+    c.in-Unplaced.why c.in-Ok.ensures.step)
+
+pub returns-in-Err-clause-made : goal.returns-in-Err-clause-made
+returns-in-Err-clause-made g c =
+    seals_not c.args.id c.args.pages c.in-Err.why c.args.self.now.engine.state c.complete.new.self.engine.state
+    c.apply.new.self.state c.apply.result c.in-Err.ensures.step c.apply.ensures.step

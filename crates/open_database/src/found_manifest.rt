@@ -1,0 +1,84 @@
+//! The manifest, as it is found in a folder.
+
+ghost use Rattle.std.specs.Prelude.{◌≡◌, IfSome, take};
+ghost use Rattle.manifest.specs.Sums.{HasSummed};
+ghost use Rattle.open_database.specs.Evidence.{BeginsAs, log_line};
+
+use crate::fault::OpenFault;
+use crate::names::{LOG, MANIFEST};
+use crate::place::Place;
+use crate::told::Teller;
+use crate::whole_file::read_whole;
+use manifest::{DatabaseName, FileSum, Manifest, Sums, decode};
+use std::fs;
+use std::io::Read;
+
+/// Where the system gives random bytes.
+pub(crate) const RANDOM: &str = "/dev/urandom";
+
+/// The manifest of a folder, if there is one. What has its name has to be one.
+pub(crate) fn read_manifest(
+    teller: &Teller<'_>,
+    is_there: bool,
+) -> Result<Option<Manifest>, OpenFault> {
+    if !is_there {
+        return Ok(None);
+    }
+    let Some(bytes) = read_whole(teller.rt, teller.folder, Place::Manifest, MANIFEST)? else {
+        return Ok(None);
+    };
+    match decode(teller.rt.alloc(), &bytes) {
+        Ok(manifest) => Ok(Some(manifest)),
+        Err(why) => Err(OpenFault::BadManifest(why)),
+    }
+}
+
+/// What a manifest says of the log.
+pub(crate) fn log_line(manifest: &Option<Manifest>) -> Option<FileSum>
+    ensures { result ≡ log_line manifest.now }
+{
+    match manifest {
+        Some(manifest) => manifest.entry(LOG),
+        None => None,
+    }
+}
+
+/// The sum of the bytes that a manifest names, if these begin with them.
+pub(crate) fn sums_of(file: &FileSum, bytes: &[u8]) -> Option<Sums>
+    ensures { IfSome result (λ sums. HasSummed sums (take file.now.bytes bytes.now)
+        × BeginsAs file.now bytes.now) }
+{
+    let first = bytes.get(..file.bytes as usize)?;
+    let mut sums = Sums::new();
+    sums.update(first);
+    let (sum, count) = sums.now();
+    if file.agrees(sum, count) {
+        Some(sums)
+    } else {
+        None
+    }
+}
+
+/// The name of the database of a folder: that in its manifest, or one that is drawn.
+pub(crate) fn name_for(
+    files: &HostRuntime,
+    manifest: &Option<Manifest>,
+) -> Result<DatabaseName, OpenFault> {
+    match manifest {
+        Some(manifest) => Ok(manifest.database()),
+        None => drawn_name(files),
+    }
+}
+
+/// A new name.
+pub(crate) fn drawn_name(files: &HostRuntime) -> Result<DatabaseName, OpenFault> {
+    let mut bytes = [0; 16];
+    let mut file = match fs::open(files, RANDOM) {
+        Ok(file) => file,
+        Err(error) => return Err(OpenFault::NoName(error.raw_os_error())),
+    };
+    match file.read_exact(&mut bytes) {
+        Ok(()) => Ok(DatabaseName(bytes)),
+        Err(error) => Err(OpenFault::NoName(error.raw_os_error())),
+    }
+}

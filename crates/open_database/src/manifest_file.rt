@@ -1,0 +1,44 @@
+//! The file of a manifest.
+
+ghost use Rattle.std.specs.Prelude.{OnOk, codes};
+ghost use Rattle.std.specs.Io.KnownBytes.{Appends};
+ghost use Rattle.manifest.specs.Text.{manifest_text};
+ghost use Rattle.saved_files.specs.PutFault.{bytes_by};
+ghost use Rattle.open_database.specs.MadeFiles.{WasPut};
+
+use crate::names::MANIFEST;
+use crate::whole_file::Bytes;
+use manifest::Manifest;
+use saved_files::{FileFault, Folder, PutFault, put_in_place};
+use std::alloc::Global;
+
+/// Puts the text of a manifest in its place, and has its name last.
+pub(crate) fn put_text<F: Folder>(
+    folder: &mut F,
+    alloc: Global,
+    manifest: &Manifest,
+) -> Result<(), FileFault>
+    requires { F.is_claimed folder.old }
+    ensures put { OnOk result (WasPut (codes "manifest")
+        (bytes_by (λ old new. Appends old new (manifest_text manifest.now)))
+        (F.entries folder.new)) }
+    ensures stored { OnOk result (F.is_stored folder.new) }
+    ensures claimed { F.is_claimed folder.new }
+{
+    let Ok(text) = manifest.to_text() else {
+        return Err(FileFault::OutOfMemory);
+    };
+    let mut source = Bytes {
+        bytes: text.as_bytes(),
+    };
+    match put_in_place(folder, alloc, MANIFEST, &mut source) {
+        Ok(()) => {}
+        Err(PutFault::Unmade(why) | PutFault::Unwritten(why) | PutFault::Unplaced(why)) => {
+            return Err(why);
+        }
+    }
+    match folder.sync_names() {
+        Ok(()) => Ok(()),
+        Err(_) => Err(FileFault::WriteFault(0)),
+    }
+}
