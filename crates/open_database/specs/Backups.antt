@@ -9,7 +9,7 @@ use Rattle.saved_files.specs.PutFault.{bytes_by}
 use Rattle.saved_files.specs.Saved.{name_of}
 use Rattle.saved_files.specs.declared.saved_name.SavedName.TheVariants as saved
 use Rattle.open_database.specs.Calls.{IsAnyReply, IsOfClosing, RunsBy}
-use Rattle.open_database.specs.MadeFiles.{WasPut}
+use Rattle.open_database.specs.MadeFiles.{HasFile}
 use Rattle.open_database.specs.Opened.{Begins}
 use Rattle.open_database.specs.Said.{IsAnswer}
 use Rattle.open_database.specs.Words.{MakesWord, one_line}
@@ -38,10 +38,10 @@ pub record CopiesBehindPoint (parent : Option ℕ) (id : ℕ) (old new : EngineS
   pub copied : IsCopied id said
   pub copy : MakesWord (Copy parent) between (one_line said) new
 
--- the last change of a folder put the file of that copy in place
+-- the file of that copy stands in a folder
 abbrev pub IsCopyPut : ℕ → EngineState → Option Entries → Type 0
 IsCopyPut id engine entries =
-    WasPut (name_of (saved.Copy id)) (bytes_by (WritesCopy engine.copies id)) entries
+    HasFile (name_of (saved.Copy id)) (bytes_by (WritesCopy engine.copies id)) entries
 
 -- the parent that a call asks for: none for a full copy, or the one that it tells; else it is chosen
 abbrev pub IsAskedFor : Bool → Option ℕ → Option ℕ → Type 0

@@ -1,10 +1,10 @@
 -- Bytes behind a log that are put aside.
-use Rattle.std.specs.Prelude.{ℕ, ◌≡◌, ◌≢◌, ◌≤◌, List, drop, length, Option}
+use Rattle.std.specs.Prelude.{ℕ, ◌≡◌, ◌≢◌, ◌≤◌, IfSome, List, drop, length, Option}
 use Rattle.std.specs.List.{Any}
 use Rattle.engine_restart.specs.declared.log_file.FoundLog.{FoundLog}
 use Rattle.log_front.specs.Front.{end_of}
 use Rattle.log_records.specs.declared.limits.TheConstants.{RECORD_BYTES}
-use Rattle.saved_files.specs.Folder.{Changes, Entries, Puts}
+use Rattle.saved_files.specs.Folder.{Changes, Entries, Puts, stored}
 
 -- the bytes behind a log in its file
 abbrev pub behind : FoundLog → List ℕ
@@ -19,6 +19,6 @@ pub record IsWorthKeeping (bytes : List ℕ) : Type 0 where
 abbrev pub IsKept : Option Entries → List ℕ → Option Entries → Type 0
 IsKept old bytes new = (name : List ℕ) × Changes (Puts name (λ it. it ≡ bytes)) old new
 
--- the last change of a folder was that
+-- such a file stands in a folder, where it is known what stands there
 abbrev pub WasKept : List ℕ → Option Entries → Type 0
-WasKept bytes new = (old : Option Entries) × IsKept old bytes new
+WasKept bytes entries = IfSome entries (λ it. (name : List ℕ) × (it name ≡ stored bytes))

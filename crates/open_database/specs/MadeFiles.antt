@@ -1,5 +1,5 @@
 -- The files that a call makes, which are in place before it is answered.
-use Rattle.std.specs.Prelude.{ℕ, ◌≡◌, List, Option, Ok, Err}
+use Rattle.std.specs.Prelude.{ℕ, ◌≡◌, IfSome, List, Option, Ok, Err}
 use Rattle.std.specs.Io.KnownBytes.{Appends}
 use Rattle.std.specs.List.{Contains}
 use Rattle.copy_vault.specs.CopyWrite.{WritesCopy}
@@ -12,7 +12,7 @@ use Rattle.engine_calls.specs.declared.refusal.Refusal.TheVariants.{CopyNotCompl
 use Rattle.engine_rules.specs.EngineState.{EngineState}
 use Rattle.engine_rules.specs.Step.{Step}
 use Rattle.log_store.specs.Master.{master_bytes}
-use Rattle.saved_files.specs.Folder.{Changes, Entries, Puts}
+use Rattle.saved_files.specs.Folder.{Entries, stored}
 use Rattle.saved_files.specs.PutFault.{bytes_by}
 use Rattle.saved_files.specs.Saved.{name_of}
 use Rattle.saved_files.specs.declared.saved_name.SavedName.TheVariants as saved
@@ -57,16 +57,18 @@ IfPoint said holds = (begin end redo : ℕ) → said ≡ Reply (Ok (Point begin 
 abbrev pub IsCopy : Said → (ℕ → Type 0) → Type 0
 IsCopy said holds = (id : ℕ) → said ≡ Reply (Ok (Copied id)) → holds id
 
--- the last change of a folder put a file of such bytes in place
-abbrev pub WasPut : List ℕ → (List ℕ → Type 0) → Option Entries → Type 0
-WasPut name fits new = (before : Option Entries) × Changes (Puts name fits) before new
+-- a file of such bytes stands in a folder under this name, whole and stored, where it is known what
+-- stands there
+abbrev pub HasFile : List ℕ → (List ℕ → Type 0) → Option Entries → Type 0
+HasFile name fits entries =
+    IfSome entries (λ it. (bytes : List ℕ) × fits bytes × (it name ≡ stored bytes))
 
 -- a copy that is answered as complete has its file in place, and a checkpoint its master record
 abbrev pub IsInPlace : Event → Said → EngineState → Option Entries → Type 0
 IsInPlace (Seal id) said engine entries =
-    IsAnswer said → WasPut (name_of (saved.Copy id)) (bytes_by (WritesCopy engine.copies id)) entries
+    IsAnswer said → HasFile (name_of (saved.Copy id)) (bytes_by (WritesCopy engine.copies id)) entries
 IsInPlace CkptEnd said engine entries =
-    IfPoint said (λ begin end. WasPut (name_of saved.Master) (is_master begin end) entries)
+    IfPoint said (λ begin end. HasFile (name_of saved.Master) (is_master begin end) entries)
 IsInPlace other said engine entries = Unit {0}
 
 -- and the names of the folder are stored
@@ -78,7 +80,7 @@ IsStoredFor other said is_stored = Unit {0}
 -- so it is with a copy that is told of a word
 abbrev pub IsCopyInPlace : WordSaid → EngineState → Option Entries → Type 0
 IsCopyInPlace (word_said.Copied id pages taken) engine entries =
-    WasPut (name_of (saved.Copy id)) (bytes_by (WritesCopy engine.copies id)) entries
+    HasFile (name_of (saved.Copy id)) (bytes_by (WritesCopy engine.copies id)) entries
 IsCopyInPlace other engine entries = Unit {0}
 
 abbrev pub IsCopyStored : WordSaid → Type 0 → Type 0

@@ -5,7 +5,7 @@ ghost use Rattle.std.specs.Io.KnownBytes.{Appends};
 ghost use Rattle.saved_files.specs.PutFault.{bytes_by};
 ghost use Rattle.open_database.specs.Calls.{IsAnyReply, IsNoFault, IsOfClosing, RunsBy};
 ghost use Rattle.open_database.specs.Closed.{IsClosed, note_of};
-ghost use Rattle.open_database.specs.MadeFiles.{WasPut};
+ghost use Rattle.open_database.specs.MadeFiles.{HasFile};
 
 use crate::closed_note::ClosedNote;
 use crate::kept_manifest::KeptManifest;
@@ -71,7 +71,7 @@ impl<F: Folder, S: PageStore, D: LogDevice + TellsWhy> Session<'_, F, S, D> {
     fn note_end(&mut self, end: Lsn) -> Result<(), FileFault>
         requires claimed { F.is_claimed self.old.folder }
         requires forced { end ≡ self.old.engine.state.forced_end }
-        ensures put { OnOk result (WasPut CLOSED.now
+        ensures put { OnOk result (HasFile CLOSED.now
             (bytes_by (λ old new. Appends old new (note_of end))) (F.entries self.new.folder)) }
         ensures stored { OnOk result (F.is_stored self.new.folder) }
         ensures engine { self.new.engine ≡ self.old.engine }

@@ -5,6 +5,7 @@ ghost use Rattle.copy_vault.specs.CopyWrite.{LeavesCopy, WritesCopy};
 ghost use Rattle.std.specs.Io.KnownBytes.{Appends};
 ghost use Rattle.log_store.specs.Master.{master_bytes};
 ghost use Rattle.manifest.specs.Sums.{IsSumOf};
+ghost use Rattle.open_database.specs.MadeFiles.{HasFile};
 ghost use Rattle.saved_files.specs.Folder.{Changes, Puts};
 ghost use Rattle.saved_files.specs.PutFault.{bytes_by};
 ghost use Rattle.saved_files.specs.Saved.{name_of};
@@ -73,6 +74,8 @@ pub(crate) fn place_master<F: Folder>(
     ensures put { OnOk result (Changes
         (Puts (name_of saved.Master) (bytes_by (λ old new. Appends old new (master_bytes master))))
         (F.entries folder.old) (F.entries folder.new)) }
+    ensures there { OnOk result (HasFile (name_of saved.Master)
+        (bytes_by (λ old new. Appends old new (master_bytes master))) (F.entries folder.new)) }
     ensures stored { OnOk result (F.is_stored folder.new) }
     ensures claimed { F.is_claimed folder.new }
 {
@@ -90,6 +93,8 @@ pub(crate) fn place_copy<F: Folder, S: PageStore, D: LogDevice>(
     ensures put { OnOk result (Changes
         (Puts (name_of (saved.Copy id)) (bytes_by (WritesCopy engine.now.state.copies id)))
         (F.entries folder.old) (F.entries folder.new)) }
+    ensures there { OnOk result (HasFile (name_of (saved.Copy id))
+        (bytes_by (WritesCopy engine.now.state.copies id)) (F.entries folder.new)) }
     ensures stored { OnOk result (F.is_stored folder.new) }
     ensures claimed { F.is_claimed folder.new }
 {

@@ -10,7 +10,7 @@ ghost use Rattle.saved_files.specs.PutFault.{bytes_by};
 ghost use Rattle.saved_files.specs.Saved.{name_of};
 ghost use Rattle.saved_files.specs.declared.saved_name.SavedName.TheVariants as saved;
 ghost use Rattle.open_database.specs.Kept.{HasSummedLog, Names, bytes_below};
-ghost use Rattle.open_database.specs.MadeFiles.{WasPut, is_master};
+ghost use Rattle.open_database.specs.MadeFiles.{HasFile, is_master};
 
 use crate::engine_files::{sum_of_copy, sum_of_master};
 use crate::kept_manifest::{KeptManifest, note_file};
@@ -77,7 +77,7 @@ impl<F: Folder, S: PageStore, D: LogDevice + TellsWhy> Session<'_, F, S, D> {
     /// an older one may stand there.
     fn put_manifest(&mut self, kept: &mut KeptManifest, copy: Option<u32>) -> Result<(), FileFault>
         requires claimed { F.is_claimed self.old.folder }
-        ensures put { OnOk result (WasPut (codes "manifest")
+        ensures put { OnOk result (HasFile (codes "manifest")
             (bytes_by (λ old new. Appends old new (manifest_text kept.new.manifest)))
             (F.entries self.new.folder)) }
         ensures stored { OnOk result (F.is_stored self.new.folder) }

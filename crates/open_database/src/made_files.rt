@@ -11,7 +11,7 @@ ghost use Rattle.saved_files.specs.PutFault.{bytes_by};
 ghost use Rattle.saved_files.specs.Saved.{name_of};
 ghost use Rattle.saved_files.specs.declared.saved_name.SavedName.TheVariants as saved;
 ghost use Rattle.open_database.specs.Calls.{Makes, copy_call};
-ghost use Rattle.open_database.specs.MadeFiles.{IfPoint, IsCopy, StepsAndSays, WasPut, answer_of};
+ghost use Rattle.open_database.specs.MadeFiles.{IfPoint, IsCopy, StepsAndSays, HasFile, answer_of};
 ghost use Rattle.open_database.specs.MadeFiles.{is_master};
 ghost use Rattle.open_database.specs.Pending.{Waits, WaitsFree, WaitsUnlessPlaced};
 ghost use Rattle.open_database.specs.Said.{IsAnswer, IsAnswerOr};
@@ -36,7 +36,7 @@ impl<F: Folder, S: PageStore, D: LogDevice + TellsWhy> Session<'_, F, S, D> {
         ensures says { StepsAndSays self.old.engine.state (event.Seal id) refusal.CopyNotOpen
             result self.new.engine.state }
         // Where it is said that the copy is complete, its file is in place, and its name lasts.
-        ensures put { IsAnswer result → WasPut (name_of (saved.Copy id))
+        ensures put { IsAnswer result → HasFile (name_of (saved.Copy id))
             (bytes_by (WritesCopy self.new.engine.state.copies id)) (F.entries self.new.folder) }
         ensures stored { IsAnswer result → F.is_stored self.new.folder }
         // Where it is said that the file is not in place, the copy waits for it from then on.
@@ -85,7 +85,7 @@ impl<F: Folder, S: PageStore, D: LogDevice + TellsWhy> Session<'_, F, S, D> {
         requires claimed { F.is_claimed self.old.folder }
         requires waits { Waits self.old.pending id }
         ensures says { IsAnswerOr answer result }
-        ensures put { IsAnswer result → WasPut (name_of (saved.Copy id))
+        ensures put { IsAnswer result → HasFile (name_of (saved.Copy id))
             (bytes_by (WritesCopy self.new.engine.state.copies id)) (F.entries self.new.folder) }
         ensures stored { IsAnswer result → F.is_stored self.new.folder }
         ensures waits { WaitsUnlessPlaced id result self.new.pending }
@@ -110,7 +110,7 @@ impl<F: Folder, S: PageStore, D: LogDevice + TellsWhy> Session<'_, F, S, D> {
     fn keep_copy(&mut self, id: u32) -> Result<(), FileFault>
         requires claimed { F.is_claimed self.old.folder }
         requires waits { Waits self.old.pending id }
-        ensures put { OnOk result (WasPut (name_of (saved.Copy id))
+        ensures put { OnOk result (HasFile (name_of (saved.Copy id))
             (bytes_by (WritesCopy self.new.engine.state.copies id)) (F.entries self.new.folder)) }
         ensures stored { OnOk result (F.is_stored self.new.folder) }
         ensures waits { Waits self.new.pending id }
@@ -130,7 +130,7 @@ impl<F: Folder, S: PageStore, D: LogDevice + TellsWhy> Session<'_, F, S, D> {
     fn put_copy(&mut self, id: u32) -> Result<(), FileFault>
         requires claimed { F.is_claimed self.old.folder }
         requires free { WaitsFree self.old.pending id }
-        ensures put { OnOk result (WasPut (name_of (saved.Copy id))
+        ensures put { OnOk result (HasFile (name_of (saved.Copy id))
             (bytes_by (WritesCopy self.new.engine.state.copies id)) (F.entries self.new.folder)) }
         ensures stored { OnOk result (F.is_stored self.new.folder) }
         ensures pending { self.new.pending ≡ self.old.pending }
@@ -152,7 +152,7 @@ impl<F: Folder, S: PageStore, D: LogDevice + TellsWhy> Session<'_, F, S, D> {
         ensures says { StepsAndSays self.old.engine.state event.CkptEnd refusal.NoCkpt result
             self.new.engine.state }
         // Where a checkpoint is answered, its master record is in place, and its name lasts.
-        ensures put { IfPoint result (λ begin end. WasPut (name_of saved.Master)
+        ensures put { IfPoint result (λ begin end. HasFile (name_of saved.Master)
             (is_master begin end) (F.entries self.new.folder)) }
         ensures stored { IfPoint result (λ _ _. F.is_stored self.new.folder) }
         ensures claimed { F.is_claimed self.new.folder }
@@ -177,7 +177,7 @@ impl<F: Folder, S: PageStore, D: LogDevice + TellsWhy> Session<'_, F, S, D> {
     pub(crate) fn place_point(&mut self, point: &UnplacedPoint) -> Said
         requires { F.is_claimed self.old.folder }
         ensures says { IsAnswerOr (answer_of point.now) result }
-        ensures put { IsAnswer result → WasPut (name_of saved.Master)
+        ensures put { IsAnswer result → HasFile (name_of saved.Master)
             (is_master point.now.begin point.now.end) (F.entries self.new.folder) }
         ensures stored { IsAnswer result → F.is_stored self.new.folder }
         ensures engine { self.new.engine ≡ self.old.engine }
@@ -198,7 +198,7 @@ impl<F: Folder, S: PageStore, D: LogDevice + TellsWhy> Session<'_, F, S, D> {
 
     fn keep_master(&mut self, point: &UnplacedPoint) -> Result<(), FileFault>
         requires { F.is_claimed self.old.folder }
-        ensures put { OnOk result (WasPut (name_of saved.Master)
+        ensures put { OnOk result (HasFile (name_of saved.Master)
             (is_master point.now.begin point.now.end) (F.entries self.new.folder)) }
         ensures stored { OnOk result (F.is_stored self.new.folder) }
         ensures engine { self.new.engine ≡ self.old.engine }

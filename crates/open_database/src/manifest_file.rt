@@ -4,7 +4,7 @@ ghost use Rattle.std.specs.Prelude.{OnOk, codes};
 ghost use Rattle.std.specs.Io.KnownBytes.{Appends};
 ghost use Rattle.manifest.specs.Text.{manifest_text};
 ghost use Rattle.saved_files.specs.PutFault.{bytes_by};
-ghost use Rattle.open_database.specs.MadeFiles.{WasPut};
+ghost use Rattle.open_database.specs.MadeFiles.{HasFile};
 
 use crate::names::MANIFEST;
 use crate::whole_file::Bytes;
@@ -19,7 +19,7 @@ pub(crate) fn put_text<F: Folder>(
     manifest: &Manifest,
 ) -> Result<(), FileFault>
     requires { F.is_claimed folder.old }
-    ensures put { OnOk result (WasPut (codes "manifest")
+    ensures put { OnOk result (HasFile (codes "manifest")
         (bytes_by (λ old new. Appends old new (manifest_text manifest.now)))
         (F.entries folder.new)) }
     ensures stored { OnOk result (F.is_stored folder.new) }

@@ -5,7 +5,7 @@ ghost use Rattle.std.specs.Io.KnownBytes.{Appends};
 ghost use Rattle.saved_files.specs.PutFault.{bytes_by};
 ghost use Rattle.saved_files.specs.Saved.{name_of};
 ghost use Rattle.open_database.specs.Kept.{Names};
-ghost use Rattle.open_database.specs.MadeFiles.{WasPut};
+ghost use Rattle.open_database.specs.MadeFiles.{HasFile};
 
 use crate::claims_soon::ClaimsSoon;
 use crate::engine_files::{place, sum_of};
@@ -141,7 +141,7 @@ fn put<F: Folder>(
     manifest: &mut Manifest,
 ) -> Result<(), OpenFault>
     requires { F.is_claimed folder.old }
-    ensures put { OnOk result (WasPut (name_of name)
+    ensures put { OnOk result (HasFile (name_of name)
         (bytes_by (λ old new. Appends old new bytes.now)) (F.entries folder.new)) }
     // Just these bytes are named.
     ensures named { OnOk result

@@ -20,7 +20,9 @@ use Rattle.saved_files.specs.PutStored.{IfNeverMade, IsUnstored, LeavesStored}
 -- two changes, one after the other
 pub then : {P Q R : Entries → Entries → Type 0} (a b c : Option Entries)
     → ((old mid new : Entries) → P old mid → Q mid new → R old new) → Changes P a b → Changes Q b c → Changes R a c
-then None b c both p q = tt
+then None None None both p q = tt
+then None None (Some new) both p q = absurd q
+then None (Some mid) c both p q = absurd p
 then (Some old) None c both p q = absurd p
 then (Some old) (Some mid) None both p q = absurd q
 then (Some old) (Some mid) (Some new) both p q = both old mid new p q
@@ -28,7 +30,8 @@ then (Some old) (Some mid) (Some new) both p q = both old mid new p q
 -- a change that implies another one
 pub so : {P Q : Entries → Entries → Type 0} (a b : Option Entries) → ((old new : Entries) → P old new → Q old new)
     → Changes P a b → Changes Q a b
-so None b imply p = tt
+so None None imply p = tt
+so None (Some new) imply p = absurd p
 so (Some old) None imply p = absurd p
 so (Some old) (Some new) imply p = imply old new p
 

@@ -13,9 +13,11 @@ pub data FolderEntry : Type 0 where
 abbrev pub Entries : Type 0
 Entries = List ℕ → FolderEntry
 
--- the entries of a folder, as far as they are known, change like this
+-- the entries of a folder change like this, where they are known; and they are known after a change
+-- just where they were before
 abbrev pub Changes : (Entries → Entries → Type 0) → Option Entries → Option Entries → Type 0
-Changes like None new = ⊤
+Changes like None None = ⊤
+Changes like None (Some new) = ⊥
 Changes like (Some old) None = ⊥
 Changes like (Some old) (Some new) = like old new
 
