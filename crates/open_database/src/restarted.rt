@@ -1,6 +1,6 @@
 //! A database that is opened again.
 
-ghost use Rattle.std.specs.Prelude.{◌≡◌, ◌≢◌, [], false, IfOk, None, OnOk, length, map};
+ghost use Rattle.std.specs.Prelude.{◌≡◌, ◌≢◌, ◌⊎◌, [], false, IfOk, IsTrue, None, OnOk, length, map};
 ghost use Rattle.buffer_pool.specs.Pool.{IsFrameCount};
 ghost use Rattle.engine_restart.specs.LogFile.{LastsOnFile};
 ghost use Rattle.engine_restart.specs.Restart.{undone_log};
@@ -8,6 +8,7 @@ ghost use Rattle.file_devices.specs.FileLog.{bytes_of};
 ghost use Rattle.log_front.specs.Front.{IsFrontOf, end_of};
 ghost use Rattle.log_records.specs.Log.{IsLog, IsPageCount, log_bytes, page_count};
 ghost use Rattle.log_rules.specs.Linked.{IsLinked};
+ghost use Rattle.open_database.specs.Closed.{IsVouched};
 ghost use Rattle.open_database.specs.Copies.{TakesUp, ids_unread};
 ghost use Rattle.saved_files.specs.Folder.{Changes, IsSame};
 ghost use Rattle.open_database.specs.Evidence.{LacksNothing};
@@ -176,6 +177,9 @@ fn prepare<F: Folder>(
     // and is gone from the log's for certain, before any record is stored there.
     ensures alone { OnOk result (remains.old.log.front.cut ≢ None
         → bytes_of remains.new.log.device ≡ log_bytes remains.new.log.front.log) }
+    // What the log's file gave is taken at its word only where the last closing vouches for it.
+    ensures vouched { OnOk result ((remains.new.log.device.is_read ≡ false)
+        ⊎ IsVouched remains.old.others.note (end_of remains.old.log.front.log)) }
     ensures claimed { F.is_claimed folder.new }
 {
     check_count(call, remains.log.front.log().page_count())?;
@@ -280,6 +284,9 @@ fn settle<F: Folder>(
     // and is gone from the log's for certain, before any record is stored there.
     ensures alone { OnOk result (remains.old.log.front.cut ≢ None
         → bytes_of remains.new.log.device ≡ log_bytes remains.new.log.front.log) }
+    // What the log's file gave is taken at its word only where the last closing vouches for it.
+    ensures vouched { OnOk result ((remains.new.log.device.is_read ≡ false)
+        ⊎ IsVouched remains.old.others.note (end_of remains.old.log.front.log)) }
     ensures claimed { F.is_claimed folder.new }
 {
     keep_behind(teller, folder, &remains.log)?;
@@ -335,6 +342,7 @@ fn keep_front(found: &mut FoundLog) -> Result<(), OpenFault>
     ensures lasting { OnOk result (LastsOnFile found.new.front.log found.new.device) }
     ensures alone { OnOk result
         (bytes_of found.new.device ≡ log_bytes found.new.front.log) }
+    ensures written { OnOk result (found.new.device.is_read ≡ false) }
 {
     match found.keep_front() {
         Ok(()) => Ok(()),
@@ -343,7 +351,9 @@ fn keep_front(found: &mut FoundLog) -> Result<(), OpenFault>
 }
 
 /// Whether the note of a clean closing says that the log lasts to its end.
-pub(crate) fn is_vouched(note: Option<ClosedNote>, end: Lsn) -> bool {
+pub(crate) fn is_vouched(note: Option<ClosedNote>, end: Lsn) -> bool
+    ensures { IsTrue result → IsVouched note end }
+{
     match note {
         Some(note) => note.end == end,
         None => false,
