@@ -3,24 +3,37 @@
 usage: python3 -m checks.folders PROGRAM
 
 A backup makes a checkpoint and a copy, on the newest one if there is one, and fills a second folder, from which the
-chain restores; there it replaces no file of another database. `verify` tells each copy, and each file that a manifest
-names, and finds a flipped bit. A renewed database has the committed numbers of the old one, also where a transaction
-was open there, an empty log but for these, and a copy; the old folder is not changed. What is refused leaves nothing.
+chain restores, and whose manifest is that of its files; there it replaces no file of another database, no newer log and
+no other copy. It gives 1,024 numbers to copies, and no more. `verify` tells each copy, and each file that a manifest
+names, and finds a flipped bit, with a manifest and without one. A renewed database has the committed numbers of the old
+one, also where a transaction was open there, and where its pages are many; it has an empty log but for these, a copy and
+a manifest; the old folder is not changed. One that was not closed, or whose log knows of less than what stands beside it,
+is not renewed, nor is one whose numbers need more than half of a log. What is refused leaves nothing, and says why.
+Streams that are full or closed harm no file.
 """
 
 import hashlib
+import shutil
+import struct
 import subprocess
 import sys
 import tempfile
 from pathlib import Path
 
-from checks.bank_files import Failure, program_of
+from checks.bank_files import Failure, memory_place, program_of
+from checks.manifest_text import head_of, is_manifest_of, misnamed
+from model.log_format import BEGIN, COMMIT, Record, encode_header, lsn_of
 
 MOST_SECONDS = 120
 PAGES = 3
 FIRST = ["begin", "set 1 0 0 5", "set 1 2 61 18446744073709551615", "commit 1"]
 SECOND = ["begin", "add 2 0 0 7", "set 2 1 3 9", "commit 2", "begin", "set 3 1 4 1", "force"]
 NUMBERS = {(0, 0): 12, (1, 3): 9, (2, 61): 18446744073709551615}
+OTHER = "this is of another database, or newer: name another folder"
+NOT_THERE = "No such file or directory (os error 2)"
+# A log takes so many records. One with nine tenths of them is told to be nearly full; it has so many pages.
+MOST_RECORDS, NEARLY_FULL, MANY_PAGES, SLOTS = 1_048_576, 943_719, 16_384, 62
+MOST_COPIES = 1_024
 
 
 class Folders:
@@ -42,15 +55,28 @@ class Folders:
             self.wants("a life", done.returncode == 0, done)
         return folder
 
+    def copied(self, folder, name):
+        """A copy of a folder."""
+        return Path(shutil.copytree(folder, self.place / name))
+
     def wants(self, what, is_so, done):
         if not is_so:
             raise Failure(f"{what}: status {done.returncode}, {done.stdout!r:.600}, {done.stderr!r:.400}")
         self.checks += 1
 
+    def says(self, what, done, status, output, *lines):
+        """How a command ended, and all that it said."""
+        error = "".join(f"{line}\n" for line in lines)
+        self.wants(what, (done.returncode, done.stdout.decode(), done.stderr.decode()) == (status, output, error), done)
+
 
 def sums_of(folder):
-    """What each file of a folder has."""
-    return {it.name: hashlib.sha256(it.read_bytes()).hexdigest() for it in folder.iterdir()}
+    """What each file of a folder has; None stands for what is no file."""
+    return {it.name: hashlib.sha256(it.read_bytes()).hexdigest() if it.is_file() else None for it in folder.iterdir()}
+
+
+def files_of(folder):
+    return {it.name: it.read_bytes() for it in folder.iterdir() if it.is_file()}
 
 
 def numbers_in(folders, volume):
@@ -74,23 +100,28 @@ def restored(folders, folder, *copies):
     return numbers_in(folders, volume)
 
 
+def split_manifest(folder):
+    """The manifest of a closed database, and the files that it is to name."""
+    files = files_of(folder)
+    return files["manifest"], {name: it for name, it in files.items() if name not in ("volume", "closed", "manifest")}
+
+
 def backups(folders):
     folder = folders.made("shop", FIRST)
     done = folders.run("backup", folder)
-    answers = done.stdout.decode().splitlines()
-    folders.wants("a first backup", done.returncode == 0 and answers[-1] == f"copy 1 pages {PAGES} taken {PAGES}"
-                  and answers[-2].startswith("point "), done)
+    folders.says("a first backup", done, 0, "point 320 384 320\ncopy 1 pages 3 taken 3\n")
     folders.wants("its numbers", restored(folders, folder, "copy-1") == {(0, 0): 5, (2, 61): NUMBERS[2, 61]}, done)
     folders.run("open", folder, lines=SECOND)
     away = folders.place / "away"
     away.mkdir()
     done = folders.run("backup", folder, "--into", away)
-    folders.wants("a second backup", done.returncode == 0, done)
+    folders.wants("a second backup", done.returncode == 0 and done.stdout.endswith(b"copy 2 pages 3 taken 2\n"), done)
     folders.wants("the second folder", sorted(sums_of(away)) == ["copy-1", "copy-2", "log", "manifest", "master"], done)
     there, here = sums_of(folder), sums_of(away)
     folders.wants("its files", all(there[name] == it for name, it in here.items() if name != "manifest"), done)
-    lines = [set((it / "manifest").read_text().splitlines()) for it in (folder, away)]
-    folders.wants("its manifest", lines[0] == lines[1], done)
+    heads = {head_of((it / "manifest").read_bytes()) for it in (folder, away)}
+    are_right = all(is_manifest_of(*split_manifest(it)) for it in (folder, away))
+    folders.wants("both manifests", len(heads) == 1 and are_right, done)
     folders.wants("its numbers", restored(folders, away, "copy-1", "copy-2") == NUMBERS, done)
     done = folders.run("backup", folder, "--full")
     folders.wants("a full backup", done.returncode == 0 and restored(folders, folder, "copy-3") == NUMBERS, done)
@@ -105,18 +136,131 @@ def backups(folders):
     return folder, away
 
 
-def backups_refused(folders, folder, away):
-    before = sums_of(away)
-    other = folders.made("other", SECOND[:1] + ["set 1 0 0 1", "commit 1"])
-    done = folders.run("backup", other, "--into", away)
-    folders.wants("another database's folder", done.returncode == 2 and sums_of(away) == before, done)
+def backups_refused(folders, folder):
     done = folders.run("backup", folder, "--full", "--on", "1")
-    folders.wants("--full beside --on", done.returncode == 2, done)
+    is_told = done.stderr.decode().endswith(f"imgcopy: {folder}: --on and --full exclude one another\n")
+    folders.wants("--full beside --on", done.returncode == 2 and is_told and not done.stdout, done)
     copies = sorted(sums_of(folder))
     done = folders.run("backup", folder, "--on", "9")
-    folders.wants("a copy that is not there", done.returncode == 2 and sorted(sums_of(folder)) == copies, done)
-    done = folders.run("backup", folders.place / "nowhere")
-    folders.wants("no folder", done.returncode == 2, done)
+    is_refused = done.returncode == 2 and done.stdout.endswith(b"\nE17 NoCopy\n") and not done.stderr
+    folders.wants("a copy that is not there", is_refused and sorted(sums_of(folder)) == copies, done)
+    nowhere = folders.place / "nowhere"
+    folders.says("no folder", folders.run("backup", nowhere), 2, "", "E33 ReadFault", f"imgcopy: {nowhere}: {NOT_THERE}")
+    empty = folders.place / "empty"
+    empty.mkdir()
+    folders.wants("an empty folder", folders.run("backup", empty).returncode == 2 and not sums_of(empty), done)
+    refused_streams(folders, folder)
+
+
+def refused_streams(folders, folder):
+    """An output that takes nothing, and streams that are closed: a file of the database must not get their numbers."""
+    folder = folders.copied(folder, "streams")
+    before, numbers = sorted(sums_of(folder)), numbers_in(folders, folder / "volume")
+    with open("/dev/full", "wb") as full:
+        done = subprocess.run([folders.program, "backup", folder], stdout=full, stderr=subprocess.PIPE, timeout=MOST_SECONDS)
+    why = b"E29 WriteFault 0\nimgcopy: standard output: No space left on device (os error 28)\n"
+    is_told = (done.returncode, done.stderr) == (2, why)
+    folders.wants("an output that is full", is_told and sorted(sums_of(folder)) == before, done)
+    for command, words in (("backup", [folder]), ("renew", [folder, folders.place / "without streams"])):
+        words = " ".join(f'"{word}"' for word in words)
+        done = subprocess.run(["sh", "-c", f'exec "{folders.program}" {command} {words} <&- >&- 2>&-'], timeout=MOST_SECONDS)
+        folders.wants(f"{command} with closed streams", done.returncode == 2 and sorted(sums_of(folder)) == before, done)
+        done = folders.run("open", folder)
+        is_well = not done.stderr and numbers_in(folders, folder / "volume") == numbers
+        folders.wants(f"{command} with closed streams, and then all is well", done.returncode == 0 and is_well, done)
+
+
+def second_folders(folders, folder, away):
+    """What stands in the second folder is of another database, or newer, or no file: it stays as it is. The copy that was
+    made is in the first one, which was closed."""
+    shop = folders.copied(folder, "shop that is backed up")
+    other = folders.made("other", SECOND[:1] + ["set 1 0 0 1", "commit 1"])
+    manifest = folders.place / "a manifest alone"
+    manifest.mkdir()
+    (manifest / "manifest").write_bytes((other / "manifest").read_bytes())
+    fork, cut = folders.copied(away, "fork"), folders.copied(away, "manifest that is cut")
+    folders.run("open", fork, lines=["begin", "set 4 0 0 1", "commit 4"])
+    (cut / "manifest").write_bytes((cut / "manifest").read_bytes()[:-1])
+    copy = folders.copied(away, "another copy")
+    data = (copy / "copy-1").read_bytes()
+    (copy / "copy-1").write_bytes(data[:-1] + bytes([data[-1] ^ 1]))
+    no_log = folders.copied(away, "no log")
+    (no_log / "log").unlink()
+    (no_log / "log").mkdir()
+    nowhere, lines = folders.place / "nowhere", len(files_of(away)["manifest"].splitlines())
+    for into, name, *told in ((other, "manifest", OTHER), (manifest, "manifest", OTHER), (fork, "log", OTHER),
+                              (copy, "copy-1", OTHER), (no_log, "log", "E33 ReadFault", "this is no regular file"),
+                              (cut, "manifest", "E33 ReadFault", f"line {lines}: no sum and name: move it away, and open again;"
+                               " the database gets a new name then"),
+                              (nowhere, "", "E33 ReadFault", NOT_THERE),
+                              (shop, "", "E29 WriteFault 0", "another one has this folder open")):
+        before, copies = into.is_dir() and sums_of(into), len(list(shop.glob("copy-*")))
+        done = folders.run("backup", shop, "--on", "1", "--into", into)
+        place = f"{into}/{name}" if name else f"{into}"
+        answers = done.stdout.decode()
+        folders.says(f"a second folder: {place}", done, 2, answers, *told[:-1], f"imgcopy: {place}: {told[-1]}")
+        is_left = into == shop or (into.is_dir() and sums_of(into)) == before
+        is_made = f"copy {copies + 1} pages 3 taken " in answers and len(list(shop.glob("copy-*"))) == copies + 1
+        is_closed = (shop / "closed").exists() and not misnamed(files_of(shop))
+        folders.wants(f"a second folder stays: {place}", is_left and is_made and is_closed, done)
+    newer_folders(folders, folder)
+
+
+def newer_folders(folders, folder):
+    """A log in the second folder goes on where the first one ends."""
+    older, newer = folders.copied(folder, "older"), folders.copied(folder, "newer")
+    away = folders.place / "away of the newer"
+    away.mkdir()
+    for _ in range(2):
+        done = folders.run("backup", newer, "--full", "--into", away)
+        folders.wants("a backup of the newer one", done.returncode == 0, done)
+    before = sums_of(away)
+    done = folders.run("backup", older, "--full", "--into", away)
+    is_beginning = (away / "log").read_bytes().startswith((older / "log").read_bytes())
+    is_told = done.stderr.decode() == f"imgcopy: {away}/log: {OTHER}\n"
+    folders.wants("a log that is newer", done.returncode == 2 and is_beginning and is_told and sums_of(away) == before, done)
+
+
+def second_manifests(folders, folder, away):
+    """The manifest in the second folder is gone, or a copy that it names is: it names what is there of this chain then."""
+    shop, bare = folders.copied(folder, "shop of the manifests"), folders.copied(away, "without a manifest")
+    head = head_of((bare / "manifest").read_bytes())
+    (bare / "manifest").unlink()
+    inode = (bare / "copy-1").stat().st_ino
+    done = folders.run("backup", shop, "--on", "1", "--into", bare)
+    manifest, files = split_manifest(bare)
+    newest = f"copy-{len(list(shop.glob('copy-*')))}"
+    named = {name: files[name] for name in ("log", "master", "copy-1", newest)}
+    folders.wants("a manifest that was gone", done.returncode == 0 and is_manifest_of(manifest, named)
+                  and head_of(manifest) == head and not done.stderr, done)
+    folders.wants("a copy that is there stays", (bare / "copy-1").stat().st_ino == inode, done)
+    lost = folders.copied(away, "without a copy")
+    (lost / "copy-2").unlink()
+    done = folders.run("backup", shop, "--full", "--into", lost)
+    folders.wants("a copy that is gone", done.returncode == 0 and is_manifest_of(*split_manifest(lost)), done)
+    told = f"imgcopy: {lost}/manifest: the line of `copy-2` is dropped\n"
+    folders.wants("a copy that is gone, told", done.stderr.decode() == told, done)
+    for it in (bare, lost):
+        folders.wants("it goes on", folders.run("open", it, lines=["read 0 0"]).stdout.endswith(b"\nvalue 12\n"), done)
+
+
+def many_copies(folders):
+    """A chain of all copies: the last one has the last number, and stands on the one before it."""
+    folder = folders.made("many", ["begin", "set 1 0 0 5", "commit 1"])
+    lines = ["copy", *(f"copy on {number}" for number in range(1, MOST_COPIES - 1))]
+    done = folders.run("open", folder, lines=lines)
+    folders.wants("many copies", done.stdout.splitlines()[-1] == b"copy 1023 pages 3 taken 0", done)
+    away = folders.place / "many away"
+    away.mkdir()
+    done = folders.run("backup", folder, "--into", away)
+    header = (folder / "copy-1024").read_bytes()[:64]
+    is_last = struct.unpack_from("<IIBxxxI", header, 8)[1:] == (1024, 2, 1023)
+    folders.wants("the last copy", done.returncode == 0 and done.stdout.endswith(b"copy 1024 pages 3 taken 0\n") and is_last, done)
+    names = {f"copy-{number}" for number in range(1, MOST_COPIES + 1)}
+    folders.wants("its chain", names < set(sums_of(away)) and not misnamed(files_of(away)), done)
+    done = folders.run("backup", folder)
+    is_refused = done.returncode == 2 and done.stdout.endswith(b"E25 TooManyCopies\n")
+    folders.wants("one copy more", is_refused and (folder / "closed").exists(), done)
 
 
 def spoiled(folders, folder):
@@ -139,10 +283,36 @@ def spoiled(folders, folder):
             line = f"{name} is not the file that the manifest names".encode()
             folders.wants(f"a bit of {name}", done.returncode == 2 and line in done.stdout.splitlines(), done)
         (day / name).write_bytes(whole)
+    bare(folders, day)
     (folder / "copy-1").rename(folder / "kept")
     done = folders.run("verify", folder)
     folders.wants("a copy that is gone", done.returncode == 2 and b"copy 2 lacks copy 1\n" in done.stdout, done)
     (folder / "kept").rename(folder / "copy-1")
+
+
+def bare(folders, day):
+    """Without a manifest the audit of a copy, its header and the master record count alone."""
+    copy, master = (day / "copy-1").read_bytes(), (day / "master").read_bytes()
+    verify = ["verify", "--no-manifest", day]
+    folders.says("no manifest", folders.run(*verify), 0, "copy 1 sound\n")
+    (day / "copy-1").write_bytes(copy[:-1] + bytes([copy[-1] ^ 1]))
+    folders.says("another number, and no manifest", folders.run(*verify), 2, "copy 1: E41 Unsound 1 2\n")
+    (day / "copy-1").write_bytes(b"x" + copy[1:])
+    done = folders.run(*verify)
+    folders.wants("no header, and no manifest", (done.returncode, done.stdout) == (2, b"") and b"copy-1" in done.stderr, done)
+    (day / "copy-1").write_bytes(copy)
+    (day / "master").write_bytes(bytes(64))
+    done = folders.run(*verify)
+    lines = done.stdout.decode().splitlines()
+    folders.wants("no master record, and no manifest",
+                  done.returncode == 2 and len(lines) == 2 and lines[0].startswith("master: E") and lines[1] == "copy 1 sound", done)
+    (day / "master").unlink()
+    (day / "master").mkdir()
+    done = folders.run("verify", day)
+    folders.wants("a folder as the master record",
+                  done.returncode == 2 and b"master is not the file that the manifest names" in done.stdout.splitlines(), done)
+    (day / "master").rmdir()
+    (day / "master").write_bytes(master)
 
 
 def renewals(folders):
@@ -150,33 +320,152 @@ def renewals(folders):
     before = sums_of(old)
     new = folders.place / "new"
     done = folders.run("renew", old, new)
-    folders.wants("a renewal", done.returncode == 0 and sums_of(old) == before, done)
+    folders.says("a renewal", done, 0, "point 384 448 384\ncopy 1 pages 3 taken 3\n")
+    folders.wants("the old folder", sums_of(old) == before, done)
     folders.wants("its name", not (folders.place / "new.unfinished-1").exists(), done)
     folders.wants("its numbers", numbers_in(folders, new / "volume") == NUMBERS, done)
     folders.wants("its copy", restored(folders, new, "copy-1") == NUMBERS, done)
+    files = files_of(new)
+    folders.wants("its files", sorted(files) == ["closed", "copy-1", "log", "manifest", "master", "volume"]
+                  and files["closed"] == b"512\n" and is_manifest_of(*split_manifest(new)), done)
+    folders.wants("the name of its database", head_of(files["manifest"]) != head_of(files_of(old)["manifest"]), done)
     log = folders.run("list", new)
     folders.wants("no transaction is open", b" open" not in log.stdout or b"open 0" in log.stdout, log)
     done = folders.run("open", new, lines=["read 0 0", "read 1 4"])
     folders.wants("it goes on", done.stdout.splitlines()[1:] == [b"value 12", b"value 0"], done)
-    done = folders.run("renew", old, new)
-    folders.wants("a name that is taken", done.returncode == 2, done)
-    (old / "closed").unlink()
-    done = folders.run("renew", old, folders.place / "newer")
-    folders.wants("one that was not closed", done.returncode == 2 and not (folders.place / "newer").exists(), done)
-    done = folders.run("renew", folders.place / "nowhere", folders.place / "newer")
-    folders.wants("no folder", done.returncode == 2 and not (folders.place / "newer").exists(), done)
+    names_that_are_taken(folders, old)
+    many_pages(folders)
+    renewals_refused(folders, old)
+
+
+def names_that_are_taken(folders, old):
+    """What has the new folder's name, or the one that it has until it is whole, stays, and nothing is made."""
+    before = sums_of(old)
+    (folders.place / "folder").mkdir()
+    (folders.place / "file").write_bytes(b"of somebody else")
+    (folders.place / "link").symlink_to("leads nowhere")
+    (folders.place / "late.unfinished-1").mkdir()
+    for name, taken in (("new", "new"), ("folder", "folder"), ("file", "file"), ("link", "link"), ("late", "late.unfinished-1")):
+        names = sorted(it.name for it in folders.place.iterdir())
+        done = folders.run("renew", old, folders.place / name)
+        folders.says(f"a name that is taken: {taken}", done, 2, "", f"imgcopy: {folders.place}: `{taken}` is there: name a folder"
+                     " that is not, or move this one away")
+        folders.wants(f"nothing is made beside {taken}", names == sorted(it.name for it in folders.place.iterdir()), done)
+    folders.wants("what stands there stays", not any((folders.place / "folder").iterdir())
+                  and not any((folders.place / "late.unfinished-1").iterdir())
+                  and (folders.place / "file").read_bytes() == b"of somebody else" and sums_of(old) == before, done)
+    for name in ("", "/"):
+        done = folders.run("renew", old, name)
+        is_told = done.stderr.decode().endswith(f"imgcopy: {name}: this names no folder\n")
+        folders.wants(f"{name!r} as a name", done.returncode == 2 and is_told and not done.stdout, done)
+    nowhere = folders.place / "nowhere"
+    folders.says("no folder for it", folders.run("renew", old, nowhere / "new"), 2, "", "E29 WriteFault 0",
+                 f"imgcopy: {nowhere}: {NOT_THERE}")
+    done = folders.run("renew", old, f"{folders.place}/slashes//")
+    folders.wants("a name with slashes behind it", done.returncode == 0 and (folders.place / "slashes" / "log").exists(), done)
+
+
+def many_pages(folders):
+    """Pages 64 to 127 have no number, and one transaction fills no more than 64 pages; the volume has grown. Then one page
+    without a number."""
+    numbers = {(0, 0): 1, (63, 61): 2, (128, 0): 3, (129, 30): 18446744073709551615}
+    sets = [f"set 1 {page} {slot} {number}" for (page, slot), number in numbers.items()]
+    old, new = folders.made("old with many pages", ["extend 130", "begin", *sets, "commit 1"]), folders.place / "new with many pages"
+    folders.says("many pages", folders.run("renew", old, new), 0, "point 576 640 576\ncopy 1 pages 130 taken 130\n")
+    done = folders.run("show", new / "log")
+    folders.wants("the log of many pages", done.stdout.startswith(b"log format 2 pages 130 records 10\n"), done)
+    folders.wants("the numbers of many pages", numbers_in(folders, new / "volume") == numbers, done)
+    old, new = folders.place / "old with a page", folders.place / "new with a page"
+    old.mkdir()
+    folders.run("open", old, "--pages", "1")
+    folders.says("one page", folders.run("renew", old, new), 0, "point 64 128 64\ncopy 1 pages 1 taken 1\n")
+
+
+def renewals_refused(folders, old):
+    """What was not closed, or lacks what was forced, is left as it is, and nothing is made."""
+    files = files_of(old)
+    log, end = files["log"], len(files["log"])
+    unclosed = "it was not closed: open it once, and end its input"
+    # The last byte of the number of the record at 128 is another one, and it is a record as before.
+    changed = log[:128 + 47] + b"x" + log[128 + 48:]
+    for what, other, told in (
+            ("no note", {"closed": None}, [unclosed]), ("a note of less", {"closed": b"128\n"}, [unclosed]),
+            ("bytes behind the log", {"log": log + b"x"}, [unclosed]),
+            ("a record less", {"log": log[:-64]}, [f"`closed` says that the log ended at {end}",
+                                                   f"`manifest` says that the log was forced to {end}"]),
+            ("a record less, and a note of that", {"log": log[:-64], "closed": b"%d\n" % (end - 64)},
+             [f"`manifest` says that the log was forced to {end}"]),
+            ("another number", {"log": changed}, [f"`manifest` has another sum of the bytes of the log before {end}"]),
+            ("no log", {"log": None}, ["E33 ReadFault", "closed: this is there, but no log"]),
+            ("an empty folder", {name: None for name in files}, ["log: there is no log"]),
+            ("a manifest that is cut", {"manifest": files["manifest"][:-1]}, ["E33 ReadFault", "manifest: line "])):
+        folder, new = folders.place / f"with {what}", folders.place / "refused"
+        folder.mkdir()
+        for name, data in (files | other).items():
+            if data is not None:
+                (folder / name).write_bytes(data)
+        before, names = sums_of(folder), sorted(it.name for it in folders.place.iterdir())
+        done = folders.run("renew", folder, new)
+        is_told = all(line in done.stderr.decode() for line in told)
+        is_left = sums_of(folder) == before and names == sorted(it.name for it in folders.place.iterdir())
+        folders.wants(f"a renewal: {what}", done.returncode == 2 and not done.stdout and is_told and is_left, done)
+    nowhere = folders.place / "nowhere"
+    folders.says("no folder", folders.run("renew", nowhere, new), 2, "", "E33 ReadFault", f"imgcopy: {nowhere}: {NOT_THERE}")
+    first = subprocess.Popen([folders.program, "open", old], stdin=subprocess.PIPE, stdout=subprocess.PIPE)
+    first.stdout.readline()
+    for words in (["renew", old, new], ["backup", old]):
+        folders.says("one that is open", folders.run(*words), 2, "", "E29 WriteFault 0",
+                     f"imgcopy: {old}: another one has this folder open")
+    first.communicate(b"")
+
+
+def a_log_that_is_nearly_full(folders):
+    """Its numbers need more than half of a log. It is told once nine tenths of the records are there."""
+    folder, log, count = folders.place / "nearly full", *log_of_adds(NEARLY_FULL - 1)
+    folder.mkdir()
+    (folder / "log").write_bytes(log)
+    end = lsn_of(NEARLY_FULL - 1)
+    done = folders.run("open", folder, lines=["read 0 0", f"extend {MANY_PAGES + 1}"])
+    folders.says("a log with a little less", done, 0, f"restarted: log cut at {end}, 0 transactions taken back,"
+                 f" {NEARLY_FULL - 1} records\nvalue 7\nlsn {end}\n")
+    done = folders.run("open", folder)
+    left = MOST_RECORDS - NEARLY_FULL
+    folders.wants("a log that is nearly full", done.returncode == 0 and done.stderr.decode() ==
+                  f"imgcopy: {folder}/log: nine tenths of it are used: it takes {left} more records\n", done)
+    needed = count + 2 * -(-count // (SLOTS * 64))
+    folders.says("numbers that need too much", folders.run("renew", folder, folders.place / "too full"), 2, "",
+                 f"imgcopy: {folder}/volume: its numbers need {needed} records, and {MOST_RECORDS // 2} is half of a log")
+    folders.wants("nothing is made", not list(folders.place.glob("too full*")), done)
+
+
+def log_of_adds(count):
+    """A log of so many records: transactions of 1,000 records and one of fewer, which add 7 to a slot each time, to none
+    of them twice. And how many slots these are."""
+    update, pieces, slots = struct.Struct("<I I Q Q I H H Q Q Q Q"), [encode_header(MANY_PAGES)], 0
+    for txn, first in enumerate(range(0, count, 1000), start=1):
+        last = min(first + 1000, count) - 1
+        pieces.append(Record(BEGIN, txn, lsn=lsn_of(first)).encode())
+        for index in range(first + 1, last):
+            pieces.append(update.pack(2, txn, lsn_of(index - 1), 0, slots // SLOTS, slots % SLOTS, 2, 0, 7, 0, lsn_of(index)))
+            slots += 1
+        pieces.append(Record(COMMIT, txn, lsn_of(last - 1), lsn=lsn_of(last)).encode())
+    return b"".join(pieces), slots
 
 
 def main(arguments):
     try:
         if len(arguments) != 1:
             raise Failure("usage: python3 -m checks.folders PROGRAM")
-        with tempfile.TemporaryDirectory() as place:
+        with tempfile.TemporaryDirectory(dir=memory_place()) as place:
             folders = Folders(program_of(arguments[0]), Path(place))
             folder, away = backups(folders)
-            backups_refused(folders, folder, away)
+            backups_refused(folders, folder)
+            second_folders(folders, folder, away)
+            second_manifests(folders, folder, away)
+            many_copies(folders)
             spoiled(folders, folder)
             renewals(folders)
+            a_log_that_is_nearly_full(folders)
     except (Failure, OSError, subprocess.SubprocessError) as failure:
         sys.exit(f"folders.py: {failure}")
     print(f"ok folders: {folders.checks} backups, verifications and renewals are as they should be")
