@@ -12,9 +12,11 @@ told, each STEP-th byte or bit is flipped, and the manifest is cut at each STEP-
 `list` and `verify` are asked of changed files, and all four commands are given --no-manifest, and both options at once.
 
 `open` keeps a manifest: behind a clean closing it is that of hashlib but for the order of its lines, and `sha256sum -c`
-accepts it. Each bit of the log is flipped, or each STEP-th one, and the log is cut at each record below the bytes that are
-named: it is not opened and nothing is touched, but by --salvage, which keeps the name of the database. Above them it is
-opened. A manifest that is cut or empty is refused, and one of another database is told as other bytes.
+accepts it; so it is once a line that put a file in place is answered, and the next one. Each bit of the log is flipped, or
+each STEP-th one, and the log is cut at each record below the bytes that are named: it is not opened and nothing is touched,
+but by --salvage, which keeps the name of the database. Above them it is opened. A manifest that is cut or empty is refused,
+and one of another database is told as other bytes; so is one that is misspelled, or no file. Lines of copies that are gone
+or not taken up are dropped before the first call. A manifest that names a header alone is taken over by a new database.
 """
 
 import hashlib
@@ -28,7 +30,9 @@ from collections import Counter
 from concurrent.futures import ThreadPoolExecutor
 from pathlib import Path
 
-from checks.manifest_text import WrongManifest, head_of, manifest_of, without_manifest
+from checks.bank_files import memory_place
+from checks.manifest_text import WrongManifest, head_of, is_manifest_of, manifest_of, without_manifest
+from model.log_format import encode_header
 from model.scripts import run
 
 EXAMPLES = Path(__file__).resolve().parent.parent / "examples"
@@ -237,6 +241,8 @@ def check_told(folder, files, others, volume):
         (folder.place / name).rename(away / name)
     words = ("log", "master", *(str(away / name) for name in CHAIN))
     see("files in two folders", folder.run("restore", *told, *words), 0, volume, "")
+    check_folder_told(folder, files, others, volume, told)
+    folder.fill(without(files, "manifest", *CHAIN))
     (away / "copy-2").write_bytes(others["copy-2"])
     done = folder.run("restore", *told, *words)
     if done.returncode != 2 or done.stdout or f"{away}/copy-2 (image copy): {OTHER}".encode() not in done.stderr:
@@ -261,10 +267,23 @@ def check_told(folder, files, others, volume):
         folder.put(name, others[name])
     see("files of the other day, and no manifest", folder.audit("--no-manifest"), 0, b"sound\n", "")
     folder.fill(files)
-    for words in (["restore", *FILES], ["audit", "log", *CHAIN], ["verify", "."], ["list", "."]):
+    for words in (["restore", *FILES], ["restore", "."], ["restore", "--copy=1", "."], ["audit", "log", *CHAIN], ["verify", "."],
+                  ["list", "."]):
         done = folder.run(words[0], "--manifest", "manifest", "--no-manifest", *words[1:])
         if done.returncode != 2 or done.stdout or not done.stderr.decode().startswith(BOTH):
             raise Failure(f"{words[0]} with both: status {done.returncode}, {done.stderr[:200]!r}")
+
+
+def check_folder_told(folder, files, others, volume, told):
+    """A restore of a folder by the manifest that is told: that of the other day, which stands there, does not count."""
+    folder.fill({**files, "manifest": others["manifest"]})
+    line = "imgcopy: .: restored from copy 3, on copy 2, on copy 1\n"
+    see("a folder, by a manifest that is told", folder.run("restore", *told, "."), 0, volume, line)
+    see("a folder, by no manifest", folder.run("restore", "--no-manifest", "."), 0, volume, line)
+    for options in ([], ["--manifest", "manifest"]):
+        done = folder.run("restore", *options, ".")
+        if done.returncode != 2 or done.stdout or f": {OTHER}".encode() not in done.stderr:
+            raise Failure(f"a folder, by the manifest of the other day {options}: status {done.returncode}, {done.stderr[:200]!r}")
 
 
 def line_of_length(place, what, has, named):
@@ -340,6 +359,7 @@ def check_again(folder, files, others, script):
 
 
 LIFE = b"begin\nset 1 0 0 500\ncommit 1\ncheckpoint\nfull\ntake 1 0\nseal 1\n"
+COPY = ["full", "take 1 0", "seal 1"]
 GROWTH = b"begin\nset 2 0 1 7\ncommit 2\nbegin\nset 3 0 2 9\ncommit 3\n"
 
 
@@ -356,7 +376,14 @@ def all_of(folder):
     return {path.name: path.read_bytes() for path in folder.place.iterdir()}
 
 
+def named_in(files):
+    """The files of a database that its manifest names once it is closed."""
+    return {name: data for name, data in files.items() if name not in ("manifest", "volume", "closed")}
+
+
 def is_refused(folder, what, told):
+    """Nothing is changed, nor is what an older life left unfinished removed."""
+    folder.put("copy-7.unfinished-1", b"an older life")
     before = all_of(folder)
     done = folder.run("open", ".")
     if done.returncode != 2 or done.stdout or told.encode() not in done.stderr or all_of(folder) != before:
@@ -376,21 +403,54 @@ def check_kept(folder):
     """What a closing leaves, and what a next life keeps of it."""
     files = database(folder, LIFE)
     head = head_of(files["manifest"])
-    wanted = manifest_of({name: files.get(name, b"") for name in FILES}, head).splitlines()
-    wanted = [line for line in wanted if hashlib.sha256(b"").hexdigest().encode() not in line and line != b"# whole 0"]
-    if sorted(files["manifest"].splitlines()) != sorted(wanted):
+    if not is_manifest_of(files["manifest"], named_in(files)):
         raise Failure(f"open leaves the manifest {files['manifest']!r}")
     summed = subprocess.run(["sha256sum", "-c", "--strict", "manifest"], cwd=folder.place, capture_output=True, check=False)
     if summed.returncode:
         raise Failure(f"sha256sum -c: status {summed.returncode}, {summed.stdout!r}, {summed.stderr!r}")
+    inode = (folder.place / "manifest").stat().st_ino
     done = folder.run("open", ".", data=b"read 0 0\n")
-    if done.returncode or done.stderr or all_of(folder) != files:
+    if done.returncode or done.stderr or all_of(folder) != files or (folder.place / "manifest").stat().st_ino != inode:
         raise Failure(f"a life that reads: status {done.returncode}, {done.stderr[:200]!r}, or it leaves other files")
     done = folder.run("open", ".", data=GROWTH)
     grown = all_of(folder)
     if done.returncode or done.stderr or head_of(grown["manifest"]) != head:
         raise Failure(f"a second life: status {done.returncode}, {done.stderr[:200]!r}, and another name")
+    if not is_manifest_of(grown["manifest"], named_in(grown)):
+        raise Failure(f"a second life leaves the manifest {grown['manifest']!r}")
+    check_names(folder)
     return files, grown
+
+
+def check_names(folder):
+    """A life closes, or is killed once it has answered the line behind one that put a file in place: in both cases the
+    manifest is that of the files."""
+    for what, before, lines in (("a master record", None, ["checkpoint"]), ("a copy", b"checkpoint\n", COPY),
+                                ("a copy and its checkpoint", None, ["begin", "commit 1", "copy"]),
+                                ("two copies by one checkpoint", b"copy\n", ["copy", "copy on 1"])):
+        for way in ("closed", "killed"):
+            database(folder, before or b"")
+            if way == "closed":
+                done = folder.run("open", ".", data="".join(f"{line}\n" for line in lines).encode())
+                folder.counts["manifests at a closing"] += 1
+            else:
+                done = killed(folder, [*lines, "read 0 0"])
+                folder.counts["manifests behind a kill"] += 1
+            after = all_of(folder)
+            if not is_manifest_of(after["manifest"], named_in(after)):
+                raise Failure(f"{what}, {way}: {done.stdout[-200:]!r}, and the manifest is {after['manifest']!r}")
+
+
+def killed(folder, lines, *words):
+    """A life that is killed once the last of its lines is answered; each has one answer."""
+    child = subprocess.Popen([folder.program, "open", *words, "."], cwd=folder.place, stdin=subprocess.PIPE, stdout=subprocess.PIPE,
+                             stderr=subprocess.PIPE)
+    child.stdin.write("".join(f"{line}\n" for line in lines).encode())
+    child.stdin.flush()
+    answers = b"".join(child.stdout.readline() for _ in range(len(lines) + 1))
+    child.kill()
+    said = child.communicate(timeout=MOST_SECONDS)[1]
+    return subprocess.CompletedProcess(child.args, child.returncode, answers, said)
 
 
 def check_opened(folder, step):
@@ -411,9 +471,10 @@ def check_opened(folder, step):
         if end < len(log):
             is_refused(folder, f"the log ends at {end}", f"`manifest` says that the log was forced to {len(log)}")
             continue
-        done = folder.run("open", ".")
-        if done.returncode or head_of(all_of(folder)["manifest"]) != head:
-            raise Failure(f"the log has grown to {end}: status {done.returncode}, {done.stderr[:300]!r}")
+        done = folder.run("open", ".", data=b"begin\nforce\n")
+        after = all_of(folder)
+        if done.returncode or head_of(after["manifest"]) != head or not is_manifest_of(after["manifest"], named_in(after)):
+            raise Failure(f"the log has grown to {end}: status {done.returncode}, {done.stderr[:300]!r}, {after['manifest']!r}")
         folder.counts["opened"] += 1
     check_other_manifests(folder, files)
 
@@ -425,6 +486,9 @@ def check_other_manifests(folder, files):
         if not lines or lines[-1][-1:] != b"\n" or lines[-1].startswith(b"# whole"):
             folder.fill({**files, "manifest": manifest[:cut]})
             is_refused(folder, f"the manifest is cut at {cut}", bad)
+    for text, line in misspelled(manifest):
+        folder.fill({**files, "manifest": text})
+        is_refused(folder, f"the manifest {text[:200]!r}", f"{bad}{line}: ")
     other = database(folder, LIFE.replace(b"500", b"501"))
     folder.fill({**files, "manifest": other["manifest"]})
     is_refused(folder, "the manifest is of another database", "`manifest` has another sum of the bytes of the log before")
@@ -434,10 +498,127 @@ def check_other_manifests(folder, files):
     done = folder.run("open", ".")
     if done.returncode or head_of(all_of(folder)["manifest"]) == head_of(manifest):
         raise Failure(f"the manifest is moved away: status {done.returncode}, {done.stderr[:300]!r}")
-    folder.fill({name: data for name, data in files.items() if name != "copy-1"})
-    done = folder.run("open", ".")
-    if done.returncode or done.stderr != b"imgcopy: ./manifest: the line of `copy-1` is dropped\n":
-        raise Failure(f"a copy is gone: status {done.returncode}, {done.stderr[:300]!r}")
+    check_no_file(folder, files)
+    check_dropped(folder)
+    check_header_alone(folder)
+    check_newer_master(folder)
+
+
+def misspelled(manifest):
+    """Texts that are no manifest, and the line of each that is wrong."""
+    lines = manifest.splitlines(True)
+    first = next(place for place, line in enumerate(lines) if line.startswith(b"# first"))
+    whole = next(place for place, line in enumerate(lines) if line.startswith(b"# whole"))
+    number, name = lines[whole].split()[2], lines[whole + 1].split()[1]
+
+    def other(place, line):
+        return b"".join([*lines[:place], line, *lines[place + 1:]]), place + 1
+
+    yield manifest.replace(b"\n", b"\r\n"), 1
+    yield other(0, lines[0].replace(b"manifest 1", b"manifest 01"))
+    yield other(first, lines[first].replace(b"# first", b"#  first"))
+    yield other(whole, b"# whole 0%s\n" % number)
+    yield other(whole, b"# whole +%s\n" % number)
+    yield other(whole, b"# whole 9223372036854775808\n")
+    yield other(whole + 1, lines[whole + 1][:64].translate(bytes.maketrans(b"0123456789", b"ABCDEFABCD")) + lines[whole + 1][64:])
+    yield other(whole + 1, lines[whole + 1].replace(b"  ", b" *"))
+    yield other(whole + 1, lines[whole + 1].replace(name, b"a " + name))
+    yield other(whole + 1, lines[whole + 1].replace(name, b"../" + name))
+    yield other(whole + 1, lines[whole + 1][:66] + b"x" * 256 + b"\n")
+    yield manifest + b"".join(lines[whole:whole + 2]), len(lines) + 2
+    yield bytes(300_000), 1
+
+
+def check_no_file(folder, files):
+    """A folder or a pipe has the name of the manifest."""
+    for what, make in (("a folder", os.mkdir), ("a pipe", os.mkfifo)):
+        folder.fill(without(files, "manifest"))
+        make(folder.place / "manifest")
+        before = touched(folder)
+        done = folder.run("open", ".")
+        see(f"{what} as the manifest", done, 2, b"", "E33 ReadFault\nimgcopy: ./manifest: this is no regular file\n")
+        if before != touched(folder):
+            raise Failure(f"{what} as the manifest: the folder is another one")
+        folder.counts["not opened"] += 1
+
+
+def touched(folder):
+    """When each file was written, and what it is."""
+    there = [(path.name, path.lstat()) for path in sorted(folder.place.iterdir())]
+    return [(name, stat.st_ino, stat.st_mode, stat.st_mtime_ns, stat.st_size) for name, stat in there]
+
+
+def without(files, *names):
+    return {name: data for name, data in files.items() if name not in names}
+
+
+def check_dropped(folder):
+    """The lines of files that are gone, and of copies that are not taken up, are dropped and told before the first call."""
+    files = database(folder, LIFE + b"copy\ncopy on 2\n")
+    for what, other, names, told in (
+            ("a copy is gone", {"copy-1": None}, ["copy-1"], []),
+            ("two copies are gone", {"copy-2": None, "copy-3": None}, ["copy-2", "copy-3"], []),
+            ("a copy is cut", {"copy-3": files["copy-3"][:-1]}, ["copy-3"], ["copy-3: no archive begins like this"]),
+            ("the copy below is gone", {"copy-2": None}, ["copy-2", "copy-3"],
+             ["copy-3: the copy that it stands on was not taken up"]),
+            ("the master record is gone", {"master": None}, [], [])):
+        some = {name: other.get(name, data) for name, data in files.items() if other.get(name, data) is not None}
+        folder.fill(without(some, "closed"))
+        lines = [*told, *(f"manifest: the line of `{name}` is dropped" for name in [*names, *(["master"] if not names else [])])]
+        done = killed(folder, [])
+        after = all_of(folder)
+        text = "".join(f"imgcopy: ./{line}\n" for line in lines)
+        if sorted(done.stderr.decode().splitlines()) != sorted(text.splitlines()):
+            raise Failure(f"{what}: {done.stderr[:300]!r}, and {text!r} is wanted")
+        if not is_manifest_of(after["manifest"], without(named_in(after), *names)):
+            raise Failure(f"{what}: the manifest is {after['manifest']!r}")
+        done = folder.run("open", ".")
+        if done.returncode or b"dropped" in done.stderr:
+            raise Failure(f"{what}, opened again: status {done.returncode}, {done.stderr[:300]!r}")
+        folder.counts["lines dropped"] += len(lines) - len(told)
+
+
+def check_header_alone(folder):
+    """A log that has its header alone is gone, and with it all but the manifest. A new database has the name of the old one,
+    and its log a header of its own, also where its first life is killed."""
+    for pages, first in ((1, b"new: 1 page\n"), (2, b"new: 2 pages\n")):
+        for way in ("closed", "killed"):
+            what = f"a manifest that names a header alone, {pages} pages, {way}"
+            folder.fill({"manifest": manifest_of({"log": encode_header(1)}, SMALL_HEAD)})
+            if way == "closed":
+                see(what, folder.run("open", "--pages", str(pages), "."), 0, first, "")
+            elif killed(folder, [], "--pages", str(pages)).stdout != first:
+                raise Failure(f"{what}: it is not opened")
+            see(f"{what}, and opened again", folder.run("open", "."), 0,
+                b"restarted: log cut at 64, 0 transactions taken back, 0 records\n", "")
+            after = all_of(folder)
+            if head_of(after["manifest"]) != SMALL_HEAD or not is_manifest_of(after["manifest"], named_in(after)):
+                raise Failure(f"{what}: it is {after['manifest']!r} then")
+            folder.counts["opened"] += 2
+
+
+def check_newer_master(folder):
+    """A life was killed between its master record and the manifest. The record is that of the log: no command takes it for
+    another file, be it then or behind a next life."""
+    files = database(folder, LIFE)
+    folder.run("open", ".", data=b"checkpoint\n")
+    newer = all_of(folder)
+    if newer["master"] == files["master"]:
+        raise Failure("a checkpoint leaves the master record as it was")
+    for what, lines in (("nothing", b""), ("a copy", b"copy\n"), ("a commit", b"begin\nset 2 0 0 1\ncommit 2\n")):
+        folder.fill({**without(newer, "closed"), "manifest": files["manifest"]})
+        for when in ("behind the kill", "behind a life", "behind one more"):
+            for words in (["restore", "log", "master", "copy-1"], ["restore", "--copy", "1", "."],
+                          ["audit", "--master", "master", "log", "copy-1"], ["verify", "."], ["list", "."]):
+                done = folder.run(*words)
+                if done.returncode or OTHER.encode() in done.stdout + done.stderr:
+                    raise Failure(f"{words} {when} that made {what}: status {done.returncode}, {done.stdout[-200:]!r},"
+                                  f" {done.stderr[:300]!r}")
+                folder.counts["taken"] += 1
+            done = folder.run("open", ".", data=lines)
+            after = all_of(folder)
+            if done.returncode or not is_manifest_of(after["manifest"], named_in(after)):
+                raise Failure(f"{when} that made {what}, the manifest is {after['manifest']!r}")
 
 
 # Each bit of a small folder
@@ -502,7 +683,7 @@ def main(arguments):
         program, step = str(Path(program).resolve()), int(arguments[1]) if arguments[1:] else 1
         script = (EXAMPLES / "day.script").read_bytes().partition(b"\nrestore")[0] + b"\n"
         second = re.sub(rb"(?m)^((?:set|add) \d+ \d+ \d+ )(\d+)$", lambda it: it[1] + b"%d" % (int(it[2]) + 1), script)
-        with tempfile.TemporaryDirectory() as place:
+        with tempfile.TemporaryDirectory(dir=memory_place()) as place:
             folder = Folder(program, Path(place) / "day")
             others, _ = day_of(folder, second)
             files, volume = day_of(folder, script)
