@@ -252,7 +252,7 @@ class Life:
         self.check_copies(after, told)
         self.check_master(after, told)
         self.check_closed(after, told, kind)
-        self.check_manifest(after, kind)
+        self.check_manifest(after, told, kind)
         return after, told
 
     def check_end(self, answers, status, said):
@@ -337,9 +337,10 @@ class Life:
         if ends:
             check_point(after.master, self.engine.log, max(ends))
 
-    def check_manifest(self, after, kind):
-        """Each line is that of a file of this life, but for the master record where the log has grown since. Behind the
-        end of a life all of the log is named. The database keeps its name, but for one that is drawn."""
+    def check_manifest(self, after, told, kind):
+        """Each line is that of a file of this life, but for the master record where the log has grown since, and for all
+        lines as long as nothing was told. Behind the end of a life all of the log is named. The database keeps its name,
+        but for one that is drawn."""
         if after.manifest is None:
             if self.before.manifest is not None and "manifest" not in self.moved:
                 raise Failure("the manifest is gone")
@@ -347,7 +348,7 @@ class Life:
         heads = [data.splitlines()[0] for data in (self.before.manifest, after.manifest) if data]
         if len({*heads}) != 1:
             raise Failure(f"the manifest begins with {heads}")
-        lines = lines_of(after.manifest)
+        lines, older = lines_of(after.manifest), [] if told else lines_of(self.before.manifest or b"")
         named = [count for name, count, _ in lines if name == "log"]
         if kind == AT_ITS_END and named != [len(after.log)]:
             raise Failure(f"the manifest names {named} bytes of the log, and it has {len(after.log)}")
@@ -355,7 +356,8 @@ class Life:
             data = after.all.get(name)
             is_right = data is not None and len(data[:count]) == count and \
                 hashlib.sha256(data[:count]).hexdigest() == digest
-            if not is_right and not (name == "master" and max(named, default=0) < len(after.log)):
+            is_behind = name == "master" and max(named, default=0) < len(after.log)
+            if not is_right and not is_behind and (name, count, digest) not in older:
                 raise Failure(f"the manifest says {(name, count, digest)}")
 
     def check_closed(self, after, told, kind):
