@@ -66,7 +66,7 @@ def contents(folder):
 
 
 def check_new(program):
-    folder = program.folder()
+    folder = program.folder(**{"closed.unfinished_1": b"1"})
     program.refuse("a new database without a count", folder, [],
                    f"imgcopy: {folder}: there is no log: name the page count of a new database by --pages")
     program.check("a new database", program.run(folder, "--pages", "4"), 0, "new: 4 pages\n")
@@ -86,6 +86,9 @@ def check_new(program):
         program.check(f"a log of {len(data)} bytes", program.run(folder, "--pages", "1"), 0, "new: 1 page\n")
         if contents(folder)["log"] != encode_header(1):
             raise Failure(f"a log of {len(data)} bytes was not made anew")
+    folder = program.folder()
+    (folder / "lost+found").mkdir()
+    program.check("the top of a file system", program.run(folder, "--pages", "1"), 0, "new: 1 page\n")
     missing = program.place / "missing"
     program.refuse("a folder that is not there", missing, ["--pages", "1"], "E33 ReadFault",
                    f"imgcopy: {missing}: {NOT_THERE}")
@@ -99,7 +102,7 @@ def check_refusals(program):
         folder = program.folder(log=data)
         program.refuse(f"{what} as the log", folder, ["--pages", "2"], "E30 BadHeader",
                        f"imgcopy: {folder}/log: it has no header of a log of format 2")
-    for files, name in (({"copy_3": b"", "copy_12": b""}, "copy-3"), ({"master": b""}, "master"),
+    for files, name in (({"copy_3": b"", "copy_12": b""}, "copy-3"), ({"master": b"", "master.unfinished_1": b"x"}, "master"),
                         ({"volume": b""}, "volume"), ({"closed": b"64\n"}, "closed"),
                         ({"log": b"", "copy_1": b"x"}, "copy-1"), ({"log": bytes(64), "master": b"x"}, "master")):
         folder = program.folder(**files)
@@ -117,7 +120,7 @@ def check_refusals(program):
     (folder / "log").symlink_to("nowhere")
     program.refuse("a link that leads nowhere as the log", folder, ["--pages", "2"], "E33 ReadFault",
                    f"imgcopy: {folder}/log: this is a link that leads nowhere")
-    folder = program.folder(notes=b"of somebody else")
+    folder = program.folder(notes=b"of somebody else", **{"copy_1.unfinished_1": b"x"})
     program.refuse("a folder with other things", folder, ["--pages", "2"],
                    f"imgcopy: {folder}: there is no log, but `notes`: name an empty folder, or one with a database")
     for log in (b"", encode_header(2)):

@@ -72,6 +72,8 @@ def checkpoints(words):
     words.wants("a checkpoint while one is open", answers[-2:] == ["E13 CkptOpen", "more"], done)
     _, done, answers = words.open(["begin", "checkpoint"])
     words.wants("a checkpoint beside a transaction", answers[-1] == "point 128 256 128", done)
+    _, done, answers = words.open([*["begin"] * 64, "checkpoint"])
+    words.wants("a checkpoint beside all transactions", answers[-1] == "point 4160 8320 4160", done)
 
 
 def copies(words):
@@ -94,6 +96,20 @@ def copies(words):
     words.wants("an audit of its files", done.stdout == b"sound\n" and done.returncode == 0, done)
 
 
+def points_of_copies(words):
+    """A copy makes a checkpoint of its own, unless the last one is the log's end, and begins redo at its own begin."""
+    _, done, answers = words.open([*MADE, "copy", "begin", "copy", "status"])
+    words.wants("a copy behind a transaction that begins", "status point 512 640 512" in answers and done.returncode == 0, done)
+    fuzzy = [*MADE, "ckpt", "gather", "gather", "gather", "endckpt"]
+    for lines in (["copy", "status"], ["flush", "copy", "status"]):
+        _, done, answers = words.open([*fuzzy, *lines])
+        is_older = answers[9] == "point 320 448 128"
+        words.wants("a copy behind a checkpoint of dirty pages", is_older and "status point 512 576 512" in answers, done)
+    folder, done, _ = words.open([*MADE, "checkpoint"])
+    _, done, answers = words.open(["copy", "status"], folder=folder)
+    words.wants("a copy of a later life", "status point 320 384 320" in answers and done.returncode == 0, done)
+
+
 def copies_refused(words):
     folder, done, answers = words.open([*MADE, "checkpoint", "copy on 9", "copy", "copy on 2", "status"])
     refused = ["point 320 384 320", "E17 NoCopy", "copy 1 pages 2 taken 2", "E17 NoCopy"]
@@ -102,19 +118,21 @@ def copies_refused(words):
     words.wants("a copy that is refused leaves nothing", is_alone, done)
     _, done, answers = words.open([*MADE, "ckpt", "copy", "full"])
     words.wants("a copy while a checkpoint is open", answers[-2:] == ["E13 CkptOpen", "E16 NoMaster"], done)
-    lines = ["copy now", "copy on", "copy on x", "copy 3", "copy on -1", "copy  on 1", "copy on 4294967296", " copy on 001 "]
+    lines = ["copy now", "copy on", "copy on x", "copy 3", "copy on -1", "copy  on 1", "copy on 4294967296", "copy on 1 ",
+             f"copy on {9:021}", f"copy on {9:020}", " copy on 001 ", "copy on 4294967295"]
     _, done, answers = words.open(lines)
-    bad = [f"bad line {number}: this word is `copy` or `copy on N`, of a copy N" for number in range(1, 8)]
-    words.wants("lines that are no copies", answers == [BEGUN, *bad, "E17 NoCopy"], done)
+    bad = [f"bad line {number}: this word is `copy` or `copy on N`, of a copy N" for number in (1, 2, 3, 4, 5, 6, 7, 9)]
+    refused = "E17 NoCopy"
+    words.wants("lines that are no copies", answers == [BEGUN, *bad[:7], refused, bad[7], *[refused] * 3], done)
 
 
 def a_page_that_cannot_be_read(words):
     """Its bytes in the volume's file are other ones, while the database is open."""
     folder, done, _ = words.open([])
     words.wants("a new database", done.returncode == 0, done)
-    said, told = typed_around(words, folder, [*MADE, "copy"], ["copy"])
-    repaired = f"{folder}/volume: page 1 could not be read, and was repaired from `copy-1`\n"
-    words.wants("a page is repaired", said == ["copy 2 pages 2 taken 2"] and repaired in told.stderr.decode(), told)
+    said, told = typed_around(words, folder, [*MADE, "copy", "copy on 1"], ["copy", "read 1 0"])
+    repaired = f"imgcopy: {folder}/volume: page 1 could not be read, and was repaired from `copy-2`\n"
+    words.wants("a page is repaired", said == ["copy 3 pages 2 taken 2", "value 6"] and told.stderr.decode() == repaired, told)
     folder, done, _ = words.open([])
     said, told = typed_around(words, folder, [*MADE, "checkpoint"], ["copy", "drop 1", "copy"])
     words.wants("nothing to repair it from", said[:2] == ["E22 StoreFault", "E17 NoCopy"] and len(said) == 3, told)
@@ -169,6 +187,14 @@ def status_lines(words):
     words.wants("a status", answers[-len(some):] == some, done)
 
 
+def dirty_pages(words):
+    """So many pages are dirty, as one after another is changed."""
+    lines = [line for page in range(9) for line in (f"set 1 {page} 0 1", "status")]
+    _, done, answers = words.open(["extend 9", "begin", *lines])
+    told = [answer for answer in answers if answer.startswith("status dirty")]
+    words.wants("dirty pages", told == [f"status dirty {count}" for count in range(1, 10)] and done.returncode == 0, done)
+
+
 def help_lines(words):
     _, done, answers = words.open(["help", "flush"])
     names = [answer.split(":")[0].split()[0] for answer in answers[1:-1]]
@@ -198,8 +224,8 @@ def main(arguments):
             raise Failure("usage: python3 -m checks.open_words PROGRAM")
         with tempfile.TemporaryDirectory() as place:
             words = Words(program_of(arguments[0]), Path(place))
-            for look in (pages_that_are_written, checkpoints, copies, copies_refused, a_page_that_cannot_be_read,
-                         lines_that_are_no_words, the_end, status_lines, help_lines,
+            for look in (pages_that_are_written, checkpoints, copies, points_of_copies, copies_refused,
+                         a_page_that_cannot_be_read, lines_that_are_no_words, the_end, status_lines, dirty_pages, help_lines,
                          a_terminal):
                 look(words)
     except (Failure, OSError, subprocess.SubprocessError) as failure:
