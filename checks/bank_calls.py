@@ -20,7 +20,7 @@ from model.log_format import HEADER_SIZE, MAGIC
 LOG, FOLDER = "log", ""
 OUTPUT = 1
 # The kinds of files, as the library counts them.
-KINDS = ("unseen", "log", "volume", "master", "copy", "folder", "lines", "other")
+KINDS = ("unseen", "log", "volume", "master", "copy", "manifest", "folder", "lines", "other")
 CREATE, TRUNCATE = os.O_CREAT, os.O_TRUNC
 SECONDS_OF_A_RUN = 60
 

@@ -8,11 +8,11 @@
 //!   file's number, an offset, how many bytes follow the line, and the result. Reads are not noted.
 //! - `FAILED_CALL` is which call fails: five words, parted by spaces. The first one is the call:
 //!   `read`, `write`, `cut`, `sync`, `make`, `rename`, `remove`, or `change`, which is all of these
-//!   but `read` and `sync`. Then comes the file: `log`, `volume`, `master`, `copy`, `folder`,
-//!   `lines`, or `any` for all but `lines`. Then which of these calls it is, from 1 on, the number
-//!   of the fault, and how: `once`; `on` for it and all behind it; `late` for a call that is made
-//!   before it fails; and `short` for a write of less than half, with a fault at each call behind
-//!   it.
+//!   but `read` and `sync`. Then comes the file: `log`, `volume`, `master`, `copy`, `manifest`,
+//!   `folder`, `lines`, or `any` for all but `lines`. Then which of these calls it is, from 1 on,
+//!   the number of the fault, and how: `once`; `on` for it and all behind it; `late` for a call that
+//!   is made before it fails; and `short` for a write of less than half, with a fault at each call
+//!   behind it.
 //! - `FAILURE_REPORT` is a file descriptor, to which a byte is written at the first fault.
 //! - `SHORT_WRITES`, if it is there, has each write of a file take less than half of what it is
 //!   given, and one byte at least.
@@ -58,6 +58,7 @@ enum Kind {
     Volume,
     Master,
     Copy,
+    Manifest,
     Folder,
     Lines,
     Other,
@@ -111,6 +112,7 @@ fn kind_of(name: &[u8]) -> Kind {
         b"" => Kind::Folder,
         _ if name.starts_with(b"master") => Kind::Master,
         _ if name.starts_with(b"copy-") => Kind::Copy,
+        _ if name.starts_with(b"manifest") => Kind::Manifest,
         _ => Kind::Other,
     }
 }
@@ -129,6 +131,7 @@ impl Failure {
                 "volume" => Some(Kind::Volume),
                 "master" => Some(Kind::Master),
                 "copy" => Some(Kind::Copy),
+                "manifest" => Some(Kind::Manifest),
                 "folder" => Some(Kind::Folder),
                 "lines" => Some(Kind::Lines),
                 _ => return None,

@@ -4,8 +4,8 @@ usage: python3 -m checks.open_tools IMGCOPY LIBRARY
 
 LIBRARY is file_calls.rs, built. A log has two names; a volume is a link; copies cannot be read, or few files may be open;
 a file system is full; lines are bad, or have no end; a database is closed. And each call of the files is failed in turn
-as a folder is opened, and as a copy and a master record are put in place. Nothing that was there may be gone then, no
-answer may be told that is not so, and without the fault all goes well.
+as a folder is opened, as a copy, a master record and a manifest are put in place, and in a backup and a renewal. Nothing
+that was there may be gone then, no answer may be told that is not so, and without the fault all goes well.
 """
 
 import os
@@ -18,8 +18,9 @@ import tempfile
 from pathlib import Path
 
 from checks.bank_files import Failure, memory_place, program_of
+from checks.manifest_text import is_manifest_of, misnamed
 from checks.open_flips import CHECKPOINT, COPIES, PAGES, Maker, check_kept
-from checks.open_folders import MOST_SECONDS, Program
+from checks.open_folders import MOST_SECONDS, Files, Program, touched
 from checks.unsaved import mount, text_of
 from model.lives import closed_note, reopen
 from model.log_format import RECORD_SIZE
@@ -38,13 +39,15 @@ class Tools(Maker):
         self.library, self.place, self.checks = library, place, 0
         self.base = self.killed_base()
 
-    def failing(self, failed, lines=(), words=()):
-        """A life in which a call of a file fails, and whether that call was made."""
+    def failing(self, failed, lines=(), command=None, folder=None):
+        """A life, or this command, in which a call of a file fails, and whether that call was made."""
+        words = command or ["open", self.folder]
         reader, writer = os.pipe()
         with os.fdopen(reader, "rb") as report:
-            environment = os.environ | {"LD_PRELOAD": self.library, "CALLS_FOLDER": str(self.folder),
+            environment = os.environ | {"LD_PRELOAD": self.library, "CALLS_FOLDER": str(folder or self.folder),
                                         "FAILED_CALL": failed, "FAILURE_REPORT": str(writer)}
-            done = self.run(*words, data=text_of(lines), env=environment, pass_fds=(writer,))
+            done = subprocess.run([self.imgcopy, *words], input=text_of(lines), capture_output=True, env=environment,
+                                  pass_fds=(writer,), timeout=MOST_SECONDS)
             os.close(writer)
             return done, report.read(1) == b"!"
 
@@ -287,6 +290,89 @@ def each_call_of_a_point(tools):
             tools.wants(f"{what}, in place", named == end, done)
 
 
+def a_copy_behind_a_point_that_waits(tools):
+    """The master record is not in place, so a copy makes a checkpoint of its own, whose record is."""
+    tools.put(tools.base)
+    done, was_met = tools.failing(f"rename master 1 {NO_SPACE} once", [*CHECKPOINT, "copy"])
+    answers, files = answers_of(done), tools.files()
+    is_made = answers[-2:] == ["E29 WriteFault 0", f"copy 3 pages {PAGES} taken {PAGES}"]
+    is_last = int.from_bytes(files["master"][16:24], "little") == len(files["log"]) - RECORD_SIZE
+    tools.wants("a copy behind a point that waits", was_met and done.returncode == 2 and is_made and is_last, done)
+    tools.wants("a copy behind a point that waits, the manifest", not misnamed(files), done)
+
+
+def each_call_of_a_manifest(tools):
+    """Answers and files are as they would be, the fault is told, and the next manifest has all lines."""
+    copy = [*CHECKPOINT, *SEALED[:4]]
+    for call in ("make", "write", "sync", "rename"):
+        for number in range(1, 9):
+            tools.put(tools.base)
+            done, was_met = tools.failing(f"{call} manifest {number} {NO_SPACE} once", copy)
+            if not was_met:
+                break
+            what, after = f"{call} {number} of the manifest", tools.files()
+            is_told = f"imgcopy: {tools.folder}/manifest: not written: ".encode() in done.stderr
+            is_answered = answers_of(done)[-1].startswith("sealed") and "closed" in after
+            tools.wants(what, done.returncode == 2 and is_told and is_answered, done)
+            names = [name for name in after if name in ("log", "master") or name.startswith("copy-")]
+            tools.wants(f"{what}, its lines", is_manifest_of(after["manifest"], {name: after[name] for name in names}), done)
+        tools.wants(f"{call} of the manifest, how often", number == 3, done)
+
+
+def each_call_of_a_backup(tools):
+    """No file that was there is gone, each is what the manifest names, and no backup with a fault ends well. The second
+    folder takes the next backup."""
+    away = tools.place / "away"
+    for folder, whose in ((tools.folder, "the database"), (away, "the second folder")):
+        for failed in (f"change any {{}} {NO_SPACE} once", f"change any {{}} {BROKEN} late", f"sync any {{}} {BROKEN} once"):
+            for call in range(1, MOST_CALLS):
+                tools.put(tools.base)
+                shutil.rmtree(away, ignore_errors=True)
+                away.mkdir()
+                for name in ("log", "master", "copy-1", "copy-2", "manifest"):
+                    (away / name).write_bytes(tools.base[name])
+                command = ["backup", tools.folder, "--into", away]
+                done, was_met = tools.failing(failed.format(call), command=command, folder=folder)
+                if not was_met:
+                    break
+                what = f"{failed.format(call)} of {whose}"
+                check_backed_up(tools, what, done, away)
+                again = subprocess.run([tools.imgcopy, *command], capture_output=True, timeout=MOST_SECONDS)
+                tools.wants(f"{what}, and then all is well", again.returncode == 0, again)
+                check_backed_up(tools, f"{what}, and then", again, away, status=0)
+            else:
+                raise Failure(f"{failed}: it has no end")
+
+
+def check_backed_up(tools, what, done, away, status=2):
+    tools.wants(what, done.returncode == status, done)
+    check_kept(tools.base, tools.files())
+    for files in (tools.files(), Files.of(away).all):
+        tools.wants(f"{what}, its manifest", not misnamed(files), done)
+
+
+def each_call_of_a_renewal(tools):
+    """The new folder is there, and whole, or it is not; the old one is as it was."""
+    top = tools.place / "top"
+    base = tools.closed_base()
+    before = touched(tools.folder)
+    for failed in (f"change any {{}} {NO_SPACE} once", f"change any {{}} {BROKEN} late", f"sync any {{}} {BROKEN} once"):
+        for call in range(1, MOST_CALLS):
+            shutil.rmtree(top, ignore_errors=True)
+            top.mkdir()
+            done, was_met = tools.failing(failed.format(call), command=["renew", tools.folder, top / "new"], folder=top)
+            if not was_met:
+                break
+            what = f"{failed.format(call)} of a renewal"
+            tools.wants(what, done.returncode == 2 and touched(tools.folder) == before, done, top)
+            if (top / "new").exists():
+                sums = subprocess.run([tools.imgcopy, "verify", top / "new"], capture_output=True, timeout=MOST_SECONDS)
+                tools.wants(f"{what}, the new folder", sums.returncode == 0 and (top / "new" / "closed").exists(), sums, top)
+        else:
+            raise Failure(f"{failed}: it has no end")
+    tools.wants("a renewal without a fault", done.returncode == 0 and tools.files() == base, done)
+
+
 def lines(tools):
     """Each line that says something has a reply; one that has no end is none."""
     tools.put({})
@@ -331,7 +417,8 @@ def closings(tools):
 
 
 CHECKS = (two_names_of_a_log, a_volume_that_is_a_link, copies_that_cannot_be_read, few_open_files, short_files,
-          a_full_disk, lines, closings, each_call_of_a_seal, each_call_of_a_point, each_call_of_an_opening)
+          a_full_disk, lines, closings, each_call_of_a_seal, each_call_of_a_point,
+          a_copy_behind_a_point_that_waits, each_call_of_a_manifest, each_call_of_a_backup, each_call_of_a_renewal, each_call_of_an_opening)
 
 
 def main(arguments):

@@ -14,6 +14,10 @@ older ones, also a volume and its log into one folder or into two. Of the calls 
 Then the power fails behind each call, by the rules of bank_calls.py: each name has its old file or its new one, whole; no
 new volume is there beside an old log; and once the command has ended all are new. Then each call fails, before or after it
 did what it was asked for: the status is 2, the lines name what failed and which names are new, and just those are.
+
+`backup --into` puts the log, its copy, the master record and the manifest in place, one after another, each synced and
+named for certain before the next one is renamed: where the power fails, the manifest names what is there. `renew` gives the
+new folder its name behind the last sync of its files, and has that last.
 """
 
 import os
@@ -27,7 +31,7 @@ from pathlib import Path
 from typing import NamedTuple
 
 from checks.bank_calls import Disk, Trace
-from checks.manifest_text import NAME, WrongManifest, without_manifest
+from checks.manifest_text import NAME, WrongManifest, misnamed, without_manifest
 from checks.unsaved import script_of, text_of
 
 PAGES, DRAWS = 24, 6
@@ -313,6 +317,84 @@ def check_names(checker):
         see(f"restore -o {volume} --log-out {log}", checker.files(), {log: checker.new["l"], volume: checker.new["v"]})
 
 
+# A second folder, and a new one
+
+def noted(checker, *words):
+    """What a command asks of the files below the top."""
+    checker.trace.unlink(missing_ok=True)
+    environment = os.environ | {"LD_PRELOAD": checker.library, "CALLS_FOLDER": str(checker.top),
+                                "CALLS_TRACE": str(checker.trace)}
+    done = subprocess.run([checker.program, *map(str, words)], capture_output=True, timeout=MOST_SECONDS, env=environment)
+    see(f"{words[0]}, its status and lines", (done.returncode, done.stderr), (0, b""))
+    return checker.trace.read_bytes()
+
+
+def database(checker):
+    """A database whose first backup is in the top folder, and that went on."""
+    folder = checker.top.with_name("database")
+    for each in (folder, checker.top):
+        shutil.rmtree(each, ignore_errors=True)
+        each.mkdir()
+    checker.plain("open", folder, "--pages", 2, data=text_of(["begin", "set 1 0 0 5", "commit 1"]))
+    checker.plain("backup", folder, "--into", checker.top)
+    checker.plain("open", folder, data=text_of(["begin", "set 2 1 0 6", "commit 2"]))
+    return folder
+
+
+def check_backup(checker):
+    folder = database(checker)
+    before = checker.files()
+    data = noted(checker, "backup", folder, "--into", checker.top)
+    events, names = events_of(data, checker.top, {"."})
+    wanted = ["log", "copy-2", "master", NAME]
+    see("backup --into, its files in their order", [each[-1] for each in names], wanted)
+    places_of_renames = []
+    for file in range(len(names)):
+        check_file(Case("backup --into", [], b"", wanted, False, None), events, file)
+        places_of_renames += places(events, "rename", file)
+    syncs = places(events, "sync", ".")
+    for first, last in zip(places_of_renames, [*places_of_renames[1:], len(events)]):
+        if not any(first < place < last for place in syncs):
+            raise Failure(f"backup --into: the folder is synced {syncs}, and its names change {places_of_renames}")
+    check_second(checker, data, before)
+    checker.counts["commands"] += 1
+
+
+def check_second(checker, data, before):
+    """The power fails behind each call of a backup: in the second folder the manifest names what is there."""
+    new, trace, draw = checker.files(), Trace(data, checker.top, before), random.Random(1)
+    for cut in range(len(trace.calls) + 1):
+        disk = Disk(trace)
+        for call in trace.calls[:cut]:
+            disk.take(call)
+        for _ in range(DRAWS):
+            files = disk.files_after_loss(draw)
+            whole = {name: it for name, it in files.items() if UNFINISHED not in name}
+            if any(it not in (before.get(name), new.get(name)) for name, it in whole.items()) or before.keys() - whole.keys():
+                raise Failure(f"backup --into, a loss of power at call {cut}: a file is neither the old one nor the new one")
+            if misnamed(whole):
+                raise Failure(f"backup --into, a loss of power at call {cut}: the manifest names another {misnamed(whole)}")
+            checker.counts["losses"] += 1
+
+
+def check_renewal(checker):
+    folder = database(checker)
+    made = f"new{UNFINISHED}1"
+    events, names = events_of(noted(checker, "renew", folder, checker.top / "new"), checker.top, {".", made})
+    named = [place for place, event in enumerate(events) if (event.word, event.name) == ("rename", "new")]
+    see("renew, its last calls", [(event.word, event.file) for event in events[-2:]], [("rename", f"older {made}"), ("sync", ".")])
+    files = {os.path.basename(each[-1]): file for file, each in enumerate(names)}
+    see("renew, its files", sorted(files), ["closed", "copy-1", "log", "manifest", "master", "volume"])
+    last_rename = max(place for place, event in enumerate(events[:named[0]]) if event.word == "rename")
+    if not any(last_rename < place for place in places(events, "sync", made)):
+        raise Failure(f"renew: the new folder is not synced behind its last name: {events}")
+    for name, file in files.items():
+        writes, syncs = places(events, "write", file), places(events, "sync", file)
+        if name != "volume" and not (writes and syncs and writes[-1] < syncs[-1] < named[0]):
+            raise Failure(f"renew: {name} is written {writes[-1:]} and synced {syncs}, and the folder named {named}")
+    checker.counts["commands"] += 1
+
+
 def main(arguments):
     try:
         if len(arguments) != 2:
@@ -326,6 +408,8 @@ def main(arguments):
                 events, names = check_calls(checker, case)
                 check_failures(checker, case, events, names)
             check_names(checker)
+            check_backup(checker)
+            check_renewal(checker)
     except (Failure, OSError, subprocess.SubprocessError) as failure:
         sys.exit(f"output_calls.py: {failure}")
     counts = checker.counts
