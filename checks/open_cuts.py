@@ -13,6 +13,7 @@ open, and:
 - Each copy whose `sealed` was told is in place, whole, and sound; the master record names the last checkpoint that was
   told, or a later one.
 - What was left out of a log stands in a file of its own, or still behind the log.
+- Each file that the manifest names is there as it is named, but for a master record beside a log that is longer.
 - The volume is what the log makes of it.
 
 A life begins in what the one before it left: at its end, where it was killed, or in what the power left of it. Now and
@@ -36,6 +37,7 @@ from pathlib import Path
 from checks.bank_calls import LOG, Trace
 from checks.bank_files import Failure, memory_place, program_of
 from checks.bank_losses import NEAR, WRONGS, Wrong, is_log
+from checks.manifest_text import misnamed
 from checks.open_folders import Files, Judge, Program, check_point, is_left_out
 from checks.open_lives import Life, Owed, World, has_old_records
 from checks.open_spoils import flipped, never_forced, old_records, torn
@@ -76,6 +78,8 @@ def check_left(life, owed, files):
     check_aside(owed, files)
     if owed.point:
         check_point(files.master, again.front.records, owed.point)
+    if files.manifest is not None and not life.is_salvage and misnamed(files.all):
+        raise Failure(f"the manifest names {misnamed(files.all)}, and other files stand there")
     return again
 
 
