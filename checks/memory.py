@@ -8,6 +8,10 @@ files of the day, and a restore of them with its log. A run that is refused one 
 with status 2; or it does without, and answers as ever. An audit says it on standard output, but for the memory of the
 program's words, before it begins. A restore that cannot make the file of its log for want of memory, or put it in place
 behind the volume, says so of that file.
+
+Commands of folders are refused each of their allocations, too. One that ends well has answered as ever; else its status is
+that of a fault, no file that was there is another one, each file that a manifest names is there as it is named, and no
+renewed folder has its name.
 """
 
 import os
@@ -20,6 +24,8 @@ from pathlib import Path
 from typing import NamedTuple
 
 from checks.answers import WRONG_WORDS
+from checks.bank_files import memory_place
+from checks.manifest_text import misnamed
 from model.recovery import encode_log, encode_pages, fault_lines, read_log, restore_files, undo_records
 from model.scripts import run as run_script
 
@@ -79,6 +85,72 @@ def check_restore(program, library, folder, files):
     return number - 1
 
 
+class Folders:
+    """A database that was backed up into a second folder, and went on; each run begins with these two."""
+
+    def __init__(self, program, top):
+        self.program, self.top = program, top
+        self.base, self.older = top / "base", top / "older"
+        self.shop, self.away, self.new = top / "shop", top / "away", top / "new"
+        for folder in (self.base, self.older):
+            folder.mkdir()
+        for words, lines in ((["open", self.base, "--pages", "2"], b"begin\nset 1 0 0 5\ncommit 1\n"),
+                             (["backup", self.base, "--into", self.older], b""),
+                             (["open", self.base], b"begin\nset 2 1 0 6\ncommit 2\n")):
+            subprocess.run([program, *words], input=lines, capture_output=True, check=True)
+        self.lines = top / "lines"
+        self.lines.write_bytes(b"begin\nset 3 1 0 7\ncommit 3\ncopy on 1\nbegin\nset 4 0 0 6\ncheckpoint\nstatus\nflush\n")
+
+    def fill(self):
+        for folder, older in ((self.shop, self.base), (self.away, self.older), (self.new, None), (self.top / "new.unfinished-1", None)):
+            shutil.rmtree(folder, ignore_errors=True)
+            if older:
+                shutil.copytree(older, folder)
+
+    def check(self, what, answer, whole):
+        """What is there behind a command that was refused memory, or was not."""
+        status, output, _ = answer
+        is_well = status == 0 and (what == "open" or output == whole[1])
+        # A header that was not read for want of memory is one that is not there.
+        is_refused = status == 2 or status == 1 and what == "restore" and not output
+        if not is_well and not is_refused:
+            raise Failure(f"{what}: the status is {status}, and {len(output)} bytes are written")
+        before, after = files_of(self.base), files_of(self.shop)
+        is_kept = after["log"].startswith(before["log"]) and after["copy-1"] == before["copy-1"]
+        if not is_kept or misnamed(after) or misnamed(files_of(self.away)):
+            raise Failure(f"{what}: status {status}, and the manifests name {misnamed(after)} and"
+                          f" {misnamed(files_of(self.away))}, or a file is gone")
+        if self.new.exists() != (what == "renew" and status == 0):
+            raise Failure(f"{what}: status {status}, and the new folder is there, or not")
+
+
+def files_of(folder):
+    return {path.name: path.read_bytes() for path in folder.iterdir()}
+
+
+def check_folders(program, library, top):
+    """How many allocations of commands of folders were refused."""
+    folders, total = Folders(program, top), 0
+    for words in (["open", folders.shop], ["backup", folders.shop, "--into", folders.away], ["renew", folders.shop, folders.new],
+                  ["verify", folders.shop], ["list", folders.shop], ["restore", folders.shop]):
+        case = Case([str(word) for word in words], folders.lines if words[0] == "open" else Path(os.devnull), ())
+        folders.fill()
+        whole, _ = run(program, case, {})
+        for number in count(1):
+            folders.fill()
+            answer, refused = run(program, case, {"LD_PRELOAD": library, "REFUSED_ALLOCATION": str(number)})
+            try:
+                folders.check(words[0], answer, whole)
+            except Failure as failure:
+                raise Failure(f"without allocation {number}: {failure}") from failure
+            if not refused:
+                break
+        if answer != whole or whole[0]:
+            raise Failure(f"{words[0]}: with all of its memory it answers {str(answer)[:80]}, and without the library {str(whole)[:80]}")
+        total += number - 1
+    return total
+
+
 def run(program, case, environment):
     """The answer, and whether an allocation was refused."""
     reading, writing = os.pipe()
@@ -131,6 +203,8 @@ def main(arguments):
             files = run_script((EXAMPLES / "day.script").read_bytes(), 3).files
             total += check(program, library, audit_case(Path(folder), files), OUT_OF_MEMORY, AUDIT_OUT_OF_MEMORY)
             total += check_restore(program, library, Path(folder), files)
+        with tempfile.TemporaryDirectory(dir=memory_place()) as top:
+            total += check_folders(program, library, Path(top))
         if total == 0:
             raise Failure("no allocation was refused")
     except (Failure, OSError) as failure:
