@@ -186,7 +186,13 @@ def named(restorer):
 
 def usage(restorer):
     (restorer.place / "bare").mkdir()
-    restorer.refused("no copies", 1, "bare", told=["E37 ChainBroken 0", "imgcopy redo < bare/log"])
+    redo = "imgcopy redo < bare/log makes the volume of the log alone"
+    restorer.refused("no copies", 1, "bare", told=["E37 ChainBroken 0", f"imgcopy: bare: there is no copy: {redo}"])
+    (restorer.place / "bare" / "copy-2").write_bytes((restorer.folder / "copy-2").read_bytes())
+    restorer.refused("a copy alone that stands on another", 1, "bare",
+                     told=["E37 ChainBroken 0", f"imgcopy: bare: no copy is whole: {redo}"])
+    (restorer.place / "bare" / "copy-1").symlink_to("nowhere")
+    restorer.refused("a link that leads nowhere below it", 1, "bare", told=["E33 ReadFault", "imgcopy: bare: no copy is whole"])
     missing = "error: the following required arguments were not provided:\n  <MASTER>\n"
     done = restorer.run("restore", "shop/log")
     restorer.wants("a file alone", done.returncode == 2 and done.stderr.decode().startswith(missing)
