@@ -255,7 +255,8 @@ def many_copies(folders):
     done = folders.run("backup", folder, "--into", away)
     header = (folder / "copy-1024").read_bytes()[:64]
     is_last = struct.unpack_from("<IIBxxxI", header, 8)[1:] == (1024, 2, 1023)
-    folders.wants("the last copy", done.returncode == 0 and done.stdout.endswith(b"copy 1024 pages 3 taken 0\n") and is_last, done)
+    is_told = done.stdout.endswith(b"copy 1024 pages 3 taken 0\n")
+    folders.wants("the last copy", done.returncode == 0 and is_told and is_last, done)
     names = {f"copy-{number}" for number in range(1, MOST_COPIES + 1)}
     folders.wants("its chain", names < set(sums_of(away)) and not misnamed(files_of(away)), done)
     done = folders.run("backup", folder)
@@ -303,9 +304,9 @@ def bare(folders, day):
     (day / "copy-1").write_bytes(copy)
     (day / "master").write_bytes(bytes(64))
     done = folders.run(*verify)
-    lines = done.stdout.decode().splitlines()
-    folders.wants("no master record, and no manifest",
-                  done.returncode == 2 and len(lines) == 2 and lines[0].startswith("master: E") and lines[1] == "copy 1 sound", done)
+    first, _, rest = done.stdout.partition(b"\n")
+    is_told = first.startswith(b"master: E") and rest == b"copy 1 sound\n"
+    folders.wants("no master record, and no manifest", done.returncode == 2 and is_told, done)
     (day / "master").unlink()
     (day / "master").mkdir()
     done = folders.run("verify", day)
@@ -345,11 +346,11 @@ def names_that_are_taken(folders, old):
     (folders.place / "file").write_bytes(b"of somebody else")
     (folders.place / "link").symlink_to("leads nowhere")
     (folders.place / "late.unfinished-1").mkdir()
-    for name, taken in (("new", "new"), ("folder", "folder"), ("file", "file"), ("link", "link"), ("late", "late.unfinished-1")):
+    for taken in ("new", "folder", "file", "link", "late.unfinished-1"):
         names = sorted(it.name for it in folders.place.iterdir())
-        done = folders.run("renew", old, folders.place / name)
-        folders.says(f"a name that is taken: {taken}", done, 2, "", f"imgcopy: {folders.place}: `{taken}` is there: name a folder"
-                     " that is not, or move this one away")
+        done = folders.run("renew", old, folders.place / taken.removesuffix(".unfinished-1"))
+        folders.says(f"a name that is taken: {taken}", done, 2, "", f"imgcopy: {folders.place}: `{taken}` is there: name a"
+                     " folder that is not, or move this one away")
         folders.wants(f"nothing is made beside {taken}", names == sorted(it.name for it in folders.place.iterdir()), done)
     folders.wants("what stands there stays", not any((folders.place / "folder").iterdir())
                   and not any((folders.place / "late.unfinished-1").iterdir())
@@ -370,7 +371,8 @@ def many_pages(folders):
     without a number."""
     numbers = {(0, 0): 1, (63, 61): 2, (128, 0): 3, (129, 30): 18446744073709551615}
     sets = [f"set 1 {page} {slot} {number}" for (page, slot), number in numbers.items()]
-    old, new = folders.made("old with many pages", ["extend 130", "begin", *sets, "commit 1"]), folders.place / "new with many pages"
+    old = folders.made("old with many pages", ["extend 130", "begin", *sets, "commit 1"])
+    new = folders.place / "new with many pages"
     folders.says("many pages", folders.run("renew", old, new), 0, "point 576 640 576\ncopy 1 pages 130 taken 130\n")
     done = folders.run("show", new / "log")
     folders.wants("the log of many pages", done.stdout.startswith(b"log format 2 pages 130 records 10\n"), done)

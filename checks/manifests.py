@@ -443,8 +443,8 @@ def check_names(folder):
 
 def killed(folder, lines, *words):
     """A life that is killed once the last of its lines is answered; each has one answer."""
-    child = subprocess.Popen([folder.program, "open", *words, "."], cwd=folder.place, stdin=subprocess.PIPE, stdout=subprocess.PIPE,
-                             stderr=subprocess.PIPE)
+    child = subprocess.Popen([folder.program, "open", *words, "."], cwd=folder.place, stdin=subprocess.PIPE,
+                             stdout=subprocess.PIPE, stderr=subprocess.PIPE)
     child.stdin.write("".join(f"{line}\n" for line in lines).encode())
     child.stdin.flush()
     answers = b"".join(child.stdout.readline() for _ in range(len(lines) + 1))
@@ -520,7 +520,7 @@ def misspelled(manifest):
     yield other(whole, b"# whole 0%s\n" % number)
     yield other(whole, b"# whole +%s\n" % number)
     yield other(whole, b"# whole 9223372036854775808\n")
-    yield other(whole + 1, lines[whole + 1][:64].translate(bytes.maketrans(b"0123456789", b"ABCDEFABCD")) + lines[whole + 1][64:])
+    yield other(whole + 1, lines[whole + 1].replace(lines[whole + 1][:64], b"AB" * 32))
     yield other(whole + 1, lines[whole + 1].replace(b"  ", b" *"))
     yield other(whole + 1, lines[whole + 1].replace(name, b"a " + name))
     yield other(whole + 1, lines[whole + 1].replace(name, b"../" + name))
@@ -564,7 +564,7 @@ def check_dropped(folder):
             ("the master record is gone", {"master": None}, [], [])):
         some = {name: other.get(name, data) for name, data in files.items() if other.get(name, data) is not None}
         folder.fill(without(some, "closed"))
-        lines = [*told, *(f"manifest: the line of `{name}` is dropped" for name in [*names, *(["master"] if not names else [])])]
+        lines = [*told, *(f"manifest: the line of `{name}` is dropped" for name in names or ["master"])]
         done = killed(folder, [])
         after = all_of(folder)
         text = "".join(f"imgcopy: ./{line}\n" for line in lines)

@@ -102,10 +102,10 @@ class Folders:
         self.lines.write_bytes(b"begin\nset 3 1 0 7\ncommit 3\ncopy on 1\nbegin\nset 4 0 0 6\ncheckpoint\nstatus\nflush\n")
 
     def fill(self):
-        for folder, older in ((self.shop, self.base), (self.away, self.older), (self.new, None), (self.top / "new.unfinished-1", None)):
+        for folder in (self.shop, self.away, self.new, self.top / "new.unfinished-1"):
             shutil.rmtree(folder, ignore_errors=True)
-            if older:
-                shutil.copytree(older, folder)
+        shutil.copytree(self.base, self.shop)
+        shutil.copytree(self.older, self.away)
 
     def check(self, what, answer, whole):
         """What is there behind a command that was refused memory, or was not."""
@@ -131,8 +131,9 @@ def files_of(folder):
 def check_folders(program, library, top):
     """How many allocations of commands of folders were refused."""
     folders, total = Folders(program, top), 0
-    for words in (["open", folders.shop], ["backup", folders.shop, "--into", folders.away], ["renew", folders.shop, folders.new],
-                  ["verify", folders.shop], ["list", folders.shop], ["restore", folders.shop]):
+    shop = folders.shop
+    for words in (["open", shop], ["backup", shop, "--into", folders.away], ["renew", shop, folders.new], ["verify", shop],
+                  ["list", shop], ["restore", shop]):
         case = Case([str(word) for word in words], folders.lines if words[0] == "open" else Path(os.devnull), ())
         folders.fill()
         whole, _ = run(program, case, {})
@@ -146,7 +147,7 @@ def check_folders(program, library, top):
             if not refused:
                 break
         if answer != whole or whole[0]:
-            raise Failure(f"{words[0]}: with all of its memory it answers {str(answer)[:80]}, and without the library {str(whole)[:80]}")
+            raise Failure(f"{words[0]}: with all of its memory it answers {str(answer)[:80]}, and alone {str(whole)[:80]}")
         total += number - 1
     return total
 

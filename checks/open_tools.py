@@ -418,7 +418,8 @@ def closings(tools):
 
 CHECKS = (two_names_of_a_log, a_volume_that_is_a_link, copies_that_cannot_be_read, few_open_files, short_files,
           a_full_disk, lines, closings, each_call_of_a_seal, each_call_of_a_point,
-          a_copy_behind_a_point_that_waits, each_call_of_a_manifest, each_call_of_a_backup, each_call_of_a_renewal, each_call_of_an_opening)
+          a_copy_behind_a_point_that_waits, each_call_of_a_manifest, each_call_of_a_backup, each_call_of_a_renewal,
+          each_call_of_an_opening)
 
 
 def main(arguments):
