@@ -112,7 +112,9 @@ class Job(NamedTuple):
     output_size: int = None
 
     def programs(self, imgcopy, tools):
-        programs = {"imgcopy": [imgcopy, *self.words], "plain": [self.plain, *self.words]}
+        # No manifest stands beside the files, and a line would say so.
+        aside = ["--no-manifest"] if self.words[0] in ("restore", "audit") else []
+        programs = {"imgcopy": [imgcopy, self.words[0], *aside, *self.words[1:]], "plain": [self.plain, *self.words]}
         return programs | ({"copy": [tools["bare_copy"]]} if self.words == ["redo"] else {})
 
 
