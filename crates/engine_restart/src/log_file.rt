@@ -1,21 +1,24 @@
 //! The log in a file, and the device that has it.
 
-ghost use Rattle.std.specs.Prelude.{◌≡◌, ◌<◌, false, drop, take, Err, IfErr, IfOk, OnErr, OnOk};
+ghost use Rattle.std.specs.Prelude.{◌≡◌, ◌<◌, false, drop, length, take, Err, IfErr, IfOk, OnErr, OnOk};
 ghost use Rattle.file_devices.specs.FileLog.{KeepFails, bytes_of};
 ghost use Rattle.log_front.specs.Front.{IsFrontOf, end_of};
 ghost use Rattle.log_records.specs.Log.{log_bytes};
 ghost use Rattle.log_rules.specs.Linked.{IsLinked};
+ghost use Rattle.engine_restart.specs.Found.{FindsNone};
 ghost use Rattle.engine_restart.specs.LogFile.{HasNoLog, IsReadWhole, KeepsFront};
 ghost use Rattle.engine_restart.specs.LogFile.{LastsOnFile};
 ghost use Rattle.engine_restart.specs.declared.log_file_fault.FoundLogFault.TheVariants.{TooLong};
 
 use crate::found::log_in;
+use crate::found_fault::FoundFault;
 use crate::log_file_fault::FoundLogFault;
 use file_devices::FileLog;
 use log_front::Front;
 use log_records::MAX_LOG_BYTES;
 use log_store::DeviceFault;
 use page_core::zeros;
+use sqlite_disk::Disk;
 use std::alloc::Global;
 use std::fs::File;
 
@@ -25,16 +28,16 @@ pub const MAX_FILE_BYTES: usize = 2 * MAX_LOG_BYTES;
 
 /// A log that was found in a file, and the device that has it.
 #[derive(Drop)]
-pub struct FoundLog {
+pub struct FoundLog<T = FileLog> {
     /// The longest front of the bytes that is a linked log, and where and why it was cut.
     pub front: Front,
     /// All bytes of the file, as it was read.
     pub bytes: Vec<u8>,
-    pub device: FileLog,
+    pub device: T,
     ghost spelled: { take (end_of front.log) bytes.items ≡ log_bytes front.log },
 }
 
-impl FoundLog {
+impl<T> FoundLog<T> {
     /// The bytes behind the log.
     pub fn behind(&self) -> &[u8]
         ensures { result.now ≡ drop (end_of self.now.front.log) self.now.bytes.items }
@@ -42,7 +45,9 @@ impl FoundLog {
         let end = self.front.log().end().0 as usize;
         self.bytes.get(end..).unwrap_or(&[])
     }
+}
 
+impl<D: Disk + Drop> FoundLog<FileLog<D>> {
     /// Stores the log again as the first bytes of its file, cuts off what stands behind it, and waits
     /// until that lasts.
     ///
@@ -91,12 +96,37 @@ pub fn found_log(alloc: Global, file: File, len: u64) -> Result<FoundLog, FoundL
         Ok(device) => device,
         Err(why) => return Err(FoundLogFault::File(why)),
     };
+    match log_on(alloc, bytes, device) {
+        Ok(found) => Ok(found),
+        Err((fault, device)) => Err(FoundLogFault::Found(fault, device)),
+    }
+}
+
+/// Finds the log in these bytes, which a device on any disk has, and which all last there: the longest
+/// front of them that is a linked log.
+///
+/// An `Err` has the faults of `log_in`, and hands the device back.
+pub fn log_on<D: Disk + Drop>(
+    alloc: Global,
+    bytes: Vec<u8>,
+    device: FileLog<D>,
+) -> Result<FoundLog<FileLog<D>>, (FoundFault, FileLog<D>)>
+    requires has { bytes_of device ≡ bytes.items }
+    requires lasts { device.end ≡ length bytes.items }
+    ensures read { IfOk result (λ it. it.bytes.items ≡ bytes.items) }
+    ensures device { IfOk result (λ it. it.device ≡ device) }
+    ensures front { IfOk result (λ it. IsFrontOf bytes.items it.front) }
+    ensures linked { IfOk result (λ it. IsLinked it.front.log.records) }
+    ensures lasting { IfOk result (λ it. LastsOnFile it.front.log it.device) }
+    ensures none { IfErr result (λ e. FindsNone bytes.items e.0) }
+    ensures untouched { IfErr result (λ e. e.1 ≡ device) }
+{
     match log_in(alloc, &bytes) {
         Ok(front) => Ok(FoundLog {
             front,
             bytes,
             device,
         }),
-        Err(fault) => Err(FoundLogFault::Found(fault, device)),
+        Err(fault) => Err((fault, device)),
     }
 }

@@ -1,5 +1,6 @@
 mod CopyCalls
 mod CutLives
+mod Forgotten
 mod PowerCuts
 mod Puts
 mod Reopened

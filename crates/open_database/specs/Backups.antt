@@ -13,7 +13,6 @@ use Rattle.open_database.specs.MadeFiles.{HasFile}
 use Rattle.open_database.specs.Opened.{Begins}
 use Rattle.open_database.specs.Said.{IsAnswer}
 use Rattle.open_database.specs.Words.{MakesWord, one_line}
-use Rattle.open_database.specs.declared.log_file.LogFile.{LogFile}
 use Rattle.open_database.specs.declared.said.Said.TheVariants.{Reply}
 use Rattle.open_database.specs.declared.word.Word.TheVariants.{Checkpoint, Copy}
 use Rattle.open_database.specs.declared.word_said.WordSaid.{WordSaid}
@@ -60,7 +59,7 @@ pub record BacksUp (full : Bool) (told : Option ℕ) (old new : EngineState) : T
 
 -- the database of a folder was opened, and backed up so
 pub record WasBackedUp (full : Bool) (told : Option ℕ) : Type 0 where
-  pub log : Option LogFile
+  pub log : Option ℕ
   pub ids : List ℕ
   pub begun : EngineState
   pub begins : Begins log ids None MAX_PAGES begun

@@ -3,6 +3,7 @@ pub mod Calls
 pub mod Closed
 pub mod ClosedVolume
 pub mod Copies
+pub mod DatabaseFolder
 pub mod Evidence
 pub mod Kept
 pub mod LeftOut
@@ -14,5 +15,6 @@ pub mod Pending
 pub mod PowerCuts
 pub mod Said
 pub mod Session
+pub mod WholeLives
 pub mod WordCopies
 pub mod Words

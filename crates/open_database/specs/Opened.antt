@@ -39,9 +39,14 @@ pub record GoesOnFromFile (count : ℕ) (ids : List ℕ) (engine : EngineState) 
 abbrev pub IsNew : Option ℕ → ℕ → EngineState → Type 0
 IsNew told frames engine = IsSomeAnd told (λ pages. engine ≡ new_state pages frames)
 
+-- how many bytes the file of a log has, if there is one
+abbrev pub len_of : {L : Type 0} → Option (LogFile L) → Option ℕ
+len_of None = None
+len_of (Some log) = Some log.len
+
 -- a database is new where there is no file of a log, or one that has no more bytes than a header;
--- else it goes on from that file, from all of it, with the copies of these ids
-abbrev pub Begins : Option LogFile → List ℕ → Option ℕ → ℕ → EngineState → Type 0
+-- else it goes on from that file, from all of its bytes, with the copies of these ids
+abbrev pub Begins : Option ℕ → List ℕ → Option ℕ → ℕ → EngineState → Type 0
 Begins None ids told frames engine = IsNew told frames engine
-Begins (Some log) ids told frames engine =
-    ((log.len ≤ HEADER_BYTES) × IsNew told frames engine) ⊎ GoesOnFromFile log.len ids engine
+Begins (Some len) ids told frames engine =
+    ((len ≤ HEADER_BYTES) × IsNew told frames engine) ⊎ GoesOnFromFile len ids engine

@@ -5,18 +5,23 @@ ghost use Rattle.open_database.specs.Backups.{BacksUp, IsAskedFor, WasBackedUp};
 ghost use Rattle.open_database.specs.declared.open.OpenEnd.TheVariants.{Well};
 
 use crate::checkpoint_and_copy::checkpoint_and_copy;
+use crate::database_folder::DatabaseFolder;
 use crate::fault::OpenFault;
-use crate::file_session::{FileSession, OpenedSession, session_in};
 use crate::kept_manifest::KeptManifest;
 use crate::open::{OpenCall, OpenEnd, held, put_point};
+use crate::opened_session::{OpenedSession, session_in};
 use crate::second_folder::put_beside;
+use crate::session::{Session, TellsWhy};
+use crate::system_database::{SystemDatabase, output};
 use crate::told::Teller;
 use crate::whole_copy::newest;
 use copy_vault::{CopyId, Vault};
 use image_copies::{CopyKind, MAX_COPIES};
+use log_store::LogDevice;
 use page_core::MAX_PAGES;
+use page_store::PageStore;
 use std::alloc::{AllocError, Global};
-use system_files::{Notes, SystemFolder};
+use system_files::Notes;
 
 /// What is to be backed up, and how.
 #[derive(Clone, Copy)]
@@ -40,10 +45,7 @@ pub fn backup_folder(rt: &HostRuntime, call: &BackupCall<'_>) -> OpenEnd
     // Where a standard stream is closed, a file of the database must not get its number.
     let _held = held(rt);
     let (notes, store_notes) = (Notes::new(), Notes::new());
-    let teller = Teller {
-        rt,
-        folder: call.folder,
-    };
+    let teller = Teller::new(rt, call.folder);
     let open = OpenCall {
         folder: call.folder,
         pages: None,
@@ -51,7 +53,7 @@ pub fn backup_folder(rt: &HostRuntime, call: &BackupCall<'_>) -> OpenEnd
         salvage: false,
         strict: true,
     };
-    let folder = SystemFolder::new(rt, rt.alloc(), call.folder, &notes);
+    let folder = SystemDatabase::new(rt, call.folder, (&notes, &store_notes));
     match session_in(&teller, folder, (&notes, &store_notes), &open) {
         Ok(
             OpenedSession {
@@ -62,7 +64,7 @@ pub fn backup_folder(rt: &HostRuntime, call: &BackupCall<'_>) -> OpenEnd
             },
         ) => {
             put_point(&mut session, point);
-            backed_up(&mut session, &mut kept, call)
+            backed_up(rt, &mut session, &mut kept, call)
         }
         Err(fault) => {
             teller.tell_fault(&fault, &notes);
@@ -72,19 +74,22 @@ pub fn backup_folder(rt: &HostRuntime, call: &BackupCall<'_>) -> OpenEnd
 }
 
 /// Makes the checkpoint and the copy, closes the database, and fills the second folder.
-fn backed_up(
-    session: &mut FileSession<'_>,
+fn backed_up<F: DatabaseFolder, S: PageStore, D: LogDevice + TellsWhy>(
+    rt: &HostRuntime,
+    session: &mut Session<'_, F, S, D>,
     kept: &mut KeptManifest,
     call: &BackupCall<'_>,
 ) -> OpenEnd
+    requires { F.is_claimed session.old.folder }
     ensures { result ≡ Well → BacksUp call.now.full call.now.on session.old.engine.state
         session.new.engine.state }
 {
     let on = parent_for(call, session.engine.copies());
-    let copied = checkpoint_and_copy(session, on);
+    let notes = Notes::new();
+    let copied = checkpoint_and_copy(session, on, &mut output(rt, &notes));
     session.close(kept);
     match copied {
-        Some(id) if !session.has_failed => put_into(session, kept, id, call),
+        Some(id) if !session.has_failed => put_into(rt, session, kept, id, call),
         _ => OpenEnd::Failed,
     }
 }
@@ -101,8 +106,9 @@ fn parent_for(call: &BackupCall<'_>, copies: &Vault) -> Option<u32>
 }
 
 /// Puts the log, the master record and the chain of a copy into the second folder, if there is one.
-fn put_into(
-    session: &FileSession<'_>,
+fn put_into<F: DatabaseFolder, S: PageStore, D: LogDevice>(
+    rt: &HostRuntime,
+    session: &Session<'_, F, S, D>,
     kept: &KeptManifest,
     id: u32,
     call: &BackupCall<'_>,
@@ -110,14 +116,13 @@ fn put_into(
     let Some(into) = call.into else {
         return OpenEnd::Well;
     };
-    let rt = session.teller.rt;
     let notes = Notes::new();
-    let teller = Teller { rt, folder: into };
-    let mut folder = SystemFolder::new(rt, rt.alloc(), into, &notes);
+    let teller = Teller::new(rt, into);
+    let mut folder = SystemDatabase::new(rt, into, (&notes, &notes));
     let put = match chain_of(session.alloc, session.engine.copies(), CopyId(id)) {
         Ok(chain) => {
-            let (from, database) = (session.teller.folder, kept.manifest.database());
-            put_beside(rt, from, &mut folder, into, &chain, database)
+            let database = kept.manifest.database();
+            put_beside(&teller, &session.folder, &mut folder, &chain, database)
         }
         Err(_) => Err(OpenFault::OutOfMemory),
     };

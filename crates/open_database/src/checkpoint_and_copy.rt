@@ -3,21 +3,22 @@
 ghost use Rattle.std.specs.Prelude.{◌≡◌, IfSome, IsTrue};
 ghost use Rattle.open_database.specs.Backups.{CopiesBehindPoint, IsCopyPut, IsToldWell};
 
+use crate::database_folder::DatabaseFolder;
 use crate::session::{Session, TellsWhy};
 use crate::word_said::{WordSaid, write_word};
 use log_store::LogDevice;
 use page_store::PageStore;
-use saved_files::Folder;
-use std::io;
-use system_files::{Noted, Notes, Patient};
+use std::io::Write;
+use system_files::{Noted, Notes};
 
-/// Makes a checkpoint and then a copy, on this one or a full one, and writes what is said of each to
-/// standard output. Answers the id of the copy, if both were made and written; what went wrong was
+/// Makes a checkpoint and then a copy, on this one or a full one, and writes what is said of each. Answers the id of the copy, if both were made and written; what went wrong was
 /// told.
-pub(crate) fn checkpoint_and_copy<F: Folder, S: PageStore, D: LogDevice + TellsWhy>(
-    session: &mut Session<'_, F, S, D>,
-    on: Option<u32>,
-) -> Option<u32>
+pub(crate) fn checkpoint_and_copy<
+    F: DatabaseFolder,
+    S: PageStore,
+    D: LogDevice + TellsWhy,
+    W: Write,
+>(session: &mut Session<'_, F, S, D>, on: Option<u32>, output: &mut Noted<'_, W>) -> Option<u32>
     requires { F.is_claimed session.old.folder }
     ensures made { IfSome result (λ id.
         CopiesBehindPoint on id session.old.engine.state session.new.engine.state) }
@@ -27,11 +28,11 @@ pub(crate) fn checkpoint_and_copy<F: Folder, S: PageStore, D: LogDevice + TellsW
     ensures claimed { F.is_claimed session.new.folder }
 {
     let point = session.checkpoint();
-    if !is_told(session, &WordSaid::Call(point)) {
+    if !is_told(session, &WordSaid::Call(point), output) {
         return None;
     }
     let copied = session.copy(on);
-    if !is_told(session, &copied) {
+    if !is_told(session, &copied, output) {
         return None;
     }
     copied.copied()
@@ -39,20 +40,21 @@ pub(crate) fn checkpoint_and_copy<F: Folder, S: PageStore, D: LogDevice + TellsW
 
 /// Tells a person what went wrong, and writes what is said. Says whether that is no refusal, and was
 /// written.
-fn is_told<F: Folder, S: PageStore, D: LogDevice + TellsWhy>(
+fn is_told<F: DatabaseFolder, S: PageStore, D: LogDevice + TellsWhy, W: Write>(
     session: &mut Session<'_, F, S, D>,
     said: &WordSaid,
+    output: &mut Noted<'_, W>,
 ) -> bool
     ensures well { IsTrue result → IsToldWell said.now }
     ensures engine { session.new.engine ≡ session.old.engine }
     ensures folder { session.new.folder ≡ session.old.folder }
 {
     let is_well = is_well(session, said);
-    is_written(session, said) && is_well
+    is_written(session, said, output) && is_well
 }
 
 /// Whether nothing was refused. What was is told.
-fn is_well<F: Folder, S: PageStore, D: LogDevice + TellsWhy>(
+fn is_well<F: DatabaseFolder, S: PageStore, D: LogDevice + TellsWhy>(
     session: &mut Session<'_, F, S, D>,
     said: &WordSaid,
 ) -> bool
@@ -73,27 +75,21 @@ fn is_well<F: Folder, S: PageStore, D: LogDevice + TellsWhy>(
 }
 
 /// Writes what is said, and says whether it was written.
-fn is_written<F: Folder, S: PageStore, D: LogDevice + TellsWhy>(
+fn is_written<F: DatabaseFolder, S: PageStore, D: LogDevice + TellsWhy, W: Write>(
     session: &mut Session<'_, F, S, D>,
     said: &WordSaid,
+    output: &mut Noted<'_, W>,
 ) -> bool
     ensures engine { session.new.engine ≡ session.old.engine }
     ensures folder { session.new.folder ≡ session.old.folder }
 {
-    let rt = session.teller.rt;
-    let output = Notes::new();
-    let mut writer = Patient {
-        stream: Noted {
-            file: io::writer(rt),
-            notes: &output,
-        },
-        rt,
-    };
-    match write_word(session.alloc, said, &mut writer) {
+    match write_word(session.alloc, said, output) {
         Ok(()) => true,
         Err(fault) => {
             session.has_failed = true;
-            session.teller.tell_ended(&fault, &Notes::new(), &output);
+            session
+                .teller
+                .tell_ended(&fault, &Notes::new(), output.notes);
             false
         }
     }

@@ -3,18 +3,18 @@
 ghost use Rattle.std.specs.Prelude.{◌≡◌, ◌++◌, [], ◌∷◌, OnOk, decimal};
 ghost use Rattle.std.specs.Io.KnownBytes.{Appends};
 ghost use Rattle.saved_files.specs.FileFault.{Leaves};
-ghost use Rattle.saved_files.specs.Folder.{Changes, IsSame};
+ghost use Rattle.saved_files.specs.Folder.{Changes, IsRemoved};
 ghost use Rattle.open_database.specs.Closed.{note_of};
 
+use crate::database_folder::{DatabaseFolder, Standing};
 use crate::fault::OpenFault;
 use crate::names::CLOSED;
 use crate::place::Place;
+use crate::whole_file::read_first;
 use page_core::{Lsn, write_out};
-use saved_files::{FileFault, Folder, Source};
+use saved_files::{FileFault, Source};
 use std::alloc::Global;
-use std::fs;
-use std::io::{Read, Write};
-use std::path::Path;
+use std::io::Write;
 
 /// How many bytes of the file are looked at. A note has fewer.
 const MOST_BYTES: usize = 32;
@@ -46,30 +46,14 @@ impl Source for ClosedNote {
 }
 
 /// What the file of the note says: nothing where it is no note.
-pub(crate) fn read_note(
-    files: &HostRuntime,
-    folder: &str,
-) -> Result<Option<ClosedNote>, OpenFault> {
-    let path = Path::new(folder).join(files.alloc(), CLOSED)?;
-    let of_closed = |error: std::io::Error| OpenFault::of(Place::Closed, &error);
-    let there = fs::metadata(files, path.as_path()).map_err(of_closed)?;
-    if !there.is_file() {
-        return Ok(None);
-    }
-    let mut file = fs::open(files, path.as_path()).map_err(of_closed)?;
+pub(crate) fn read_note<F: DatabaseFolder>(folder: &F) -> Result<Option<ClosedNote>, OpenFault> {
     let mut bytes = [0; MOST_BYTES];
-    let mut len = 0;
-    for _ in 0..=MOST_BYTES {
-        let Some(rest) = bytes.get_mut(len..) else {
-            break;
-        };
-        let count = file.read(rest).map_err(of_closed)?;
-        if count == 0 {
-            break;
-        }
-        len = len.saturating_add(count);
+    match read_first(folder, CLOSED, &mut bytes) {
+        Ok(Standing::File(len)) => Ok(note_in(bytes.get(..len).unwrap_or(&[]))),
+        Ok(Standing::NoFile) => Err(OpenFault::NoFile(Place::Closed)),
+        Ok(Standing::Nothing) => Err(OpenFault::absent(Place::Closed)),
+        Err(error) => Err(OpenFault::of(Place::Closed, &error)),
     }
-    Ok(note_in(bytes.get(..len).unwrap_or(&[])))
 }
 
 /// The note that these bytes are, if they are one.
@@ -85,18 +69,15 @@ fn note_in(bytes: &[u8]) -> Option<ClosedNote> {
 }
 
 /// Removes the note, and sees that its name is gone for certain.
-pub(crate) fn remove_note<F: Folder>(
-    files: &HostRuntime,
-    folder: &mut F,
-    name: &str,
-) -> Result<(), OpenFault>
+pub(crate) fn remove_note<F: DatabaseFolder>(folder: &mut F) -> Result<(), OpenFault>
     requires { F.is_claimed folder.old }
     ensures stored { OnOk result (F.is_stored folder.new) }
-    // What this writes has other names.
-    ensures same { OnOk result (Changes IsSame (F.entries folder.old) (F.entries folder.new)) }
+    ensures removed { OnOk result
+        (Changes (IsRemoved CLOSED.now) (F.entries folder.old) (F.entries folder.new)) }
     ensures claimed { F.is_claimed folder.new }
 {
-    let path = Path::new(name).join(files.alloc(), CLOSED)?;
-    fs::remove_file(files, path.as_path()).map_err(|error| OpenFault::of(Place::Closed, &error))?;
-    folder.sync_names().map_err(OpenFault::of_folder)
+    match folder.remove(CLOSED) {
+        Ok(()) => folder.sync_names().map_err(OpenFault::of_folder),
+        Err(error) => Err(OpenFault::of(Place::Closed, &error)),
+    }
 }

@@ -1,54 +1,44 @@
 //! The volume of a closed database, which is read and left as it is.
 
-ghost use Rattle.std.specs.Prelude.{◌≡◌, IfOk, IsTrue, OnOk, length};
+ghost use Rattle.std.specs.Prelude.{◌≡◌, IfOk, IsTrue, OnOk};
 ghost use Rattle.log_front.specs.Front.{end_of};
 ghost use Rattle.open_database.specs.ClosedVolume.{HaveSameNumbers, IsLeftBy, IsOfClosed};
 ghost use Rattle.open_database.specs.Evidence.{LacksNothing};
 ghost use Rattle.open_database.specs.Master.{spelled};
 
+use crate::database_folder::DatabaseFolder;
 use crate::fault::OpenFault;
 use crate::inventory::Inventory;
-use crate::log_file::{LogFile, of_log, open_log_to_read};
+use crate::log_file::bytes_of;
 use crate::restarted::{Others, find_others, is_vouched, loss_of};
 use crate::told::Teller;
-use engine_restart::{FoundFault, FoundLogFault, MAX_FILE_BYTES, committed_pages, log_in};
+use engine_restart::{committed_pages, log_in};
 use log_front::Front;
-use page_core::{Page, zeros};
+use page_core::Page;
 use std::alloc::Global;
-use std::os::unix::fs::FileExt;
 
 /// The pages of the closed database in a folder that is claimed, in order of their numbers, each slot
 /// with its committed number. Nothing is changed there.
 ///
 /// A database is closed where the note of its closing says where its log ends, and nothing that
 /// stands beside it knows of more.
-pub(crate) fn read_closed(teller: &Teller<'_>) -> Result<Vec<Page>, OpenFault>
+pub(crate) fn read_closed<F: DatabaseFolder>(
+    teller: &Teller<'_>,
+    folder: &F,
+) -> Result<Vec<Page>, OpenFault>
     ensures { IfOk result (λ pages. IsOfClosed pages.items) }
 {
-    let there = Inventory::of(teller.rt, teller.folder)?;
+    let alloc = teller.alloc;
+    let there = Inventory::of(alloc, folder)?;
     if let (Some(place), false) = (there.widow(), there.has_log()) {
         return Err(OpenFault::LogLost(place));
     }
-    let Some(log) = open_log_to_read(teller.rt, teller.folder)? else {
+    let Some(log) = folder.open_log(false)? else {
         return Err(OpenFault::NoLog);
     };
-    let bytes = bytes_of(teller.rt.alloc(), &log)?;
-    let others = find_others(teller, &there)?;
-    volume_in(teller.rt.alloc(), &bytes, &others)
-}
-
-/// All bytes of a log's file.
-fn bytes_of(alloc: Global, log: &LogFile) -> Result<Vec<u8>, OpenFault>
-    ensures { IfOk result (λ bytes. length bytes.items ≡ log.now.len) }
-{
-    if log.len > MAX_FILE_BYTES as u64 {
-        return Err(OpenFault::TooLong(log.len));
-    }
-    let mut bytes = zeros(alloc, log.len as usize)?;
-    match log.file.read_exact_at(&mut bytes, 0) {
-        Ok(()) => Ok(bytes),
-        Err(error) => Err(of_log(error)),
-    }
+    let bytes = bytes_of::<F>(alloc, &log)?;
+    let others = find_others(teller, folder, &there)?;
+    volume_in(alloc, &bytes, &others)
 }
 
 /// The pages that the log in these bytes leaves, where that is all of them, and what stands beside it

@@ -31,7 +31,7 @@ pub(crate) fn take_up(
     ensures taken { OnOk result (TakesUp end restarted.old copies.items restarted.new) }
     ensures unread { IfOk result (λ ids. ids.items ≡ ids_unread copies.items) }
 {
-    let mut unread = Vec::new(teller.rt.alloc());
+    let mut unread = Vec::new(teller.alloc);
     for file in copies {
         take_file(teller, restarted, end, file, &mut unread)?;
     }
@@ -102,7 +102,7 @@ fn take_one(
         teller.tell(Place::Copy(id), &CopyTrouble::OtherId(copy.id()));
         return Ok(());
     }
-    match added(teller.rt.alloc(), restarted, copy) {
+    match added(teller.alloc, restarted, copy) {
         Ok(()) => Ok(()),
         Err(fault) => {
             if is_of_memory(&fault) {

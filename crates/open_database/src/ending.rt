@@ -8,6 +8,7 @@ ghost use Rattle.open_database.specs.Closed.{IsClosed, note_of};
 ghost use Rattle.open_database.specs.MadeFiles.{HasFile};
 
 use crate::closed_note::ClosedNote;
+use crate::database_folder::DatabaseFolder;
 use crate::kept_manifest::KeptManifest;
 use crate::names::CLOSED;
 use crate::page_writes::write_pages;
@@ -17,9 +18,9 @@ use aries_core::Refusal;
 use log_store::LogDevice;
 use page_core::Lsn;
 use page_store::PageStore;
-use saved_files::{FileFault, Folder, PutFault, put_in_place};
+use saved_files::{FileFault, PutFault, put_in_place};
 
-impl<F: Folder, S: PageStore, D: LogDevice + TellsWhy> Session<'_, F, S, D> {
+impl<F: DatabaseFolder, S: PageStore, D: LogDevice + TellsWhy> Session<'_, F, S, D> {
     /// Forces the log, writes each dirty page, names all of the log in the manifest, and notes where it
     /// ends. What fails is told, and then nothing is noted.
     pub(crate) fn close(&mut self, kept: &mut KeptManifest)

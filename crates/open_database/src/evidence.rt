@@ -111,6 +111,13 @@ impl Loss {
     ghost use Rattle.open_database.specs.Evidence.{Hears, IsBegunIn, IsFileWithin, IsMissed};
     ghost use Rattle.open_database.specs.Evidence.{IsWithin};
 
+    /// Whether nothing is known to be missing.
+    pub fn is_none(&self) -> bool
+        ensures { IsTrue result → self.now.claims.items ≡ [] }
+    {
+        self.claims.is_empty()
+    }
+
     /// Of a log whose front ends there nothing is known to be missing yet.
     pub fn new(alloc: Global, end: Lsn, cut: Option<Cut>) -> Loss
         ensures end { result.end ≡ end }

@@ -3,8 +3,7 @@
 use crate::evidence::Loss;
 use crate::place::Place;
 use aries_core::{NotResumed, Refusal};
-use engine_restart::{FoundFault, FoundLogFault, RestartFault};
-use file_devices::FailedFile;
+use engine_restart::{FoundFault, RestartFault};
 use log_store::LogDevice;
 use manifest::ManifestFault;
 use page_core::FaultName;
@@ -15,6 +14,9 @@ use std::io;
 use std::io::ErrorKind;
 use system_files::ClaimFault;
 use txn_table::TablesFault;
+
+/// The number that the system has for a file that is not there.
+pub(crate) const NO_ENTRY: i32 = 2;
 
 /// Why a database was not opened. The first of these come before anything in the folder is touched;
 /// behind them come those of what an opening does.
@@ -89,14 +91,14 @@ impl OpenFault {
         }
     }
 
-    /// The same, at the folder.
+    /// What an error of the system is at the folder.
     pub fn of_folder(error: io::Error) -> OpenFault {
         OpenFault::of(Place::Folder, &error)
     }
 
-    /// The same, of a file on which no device could be made.
-    pub fn of_device(place: Place, why: &FailedFile) -> OpenFault {
-        OpenFault::of(place, &why.error)
+    /// What it is that nothing stands at this place.
+    pub fn absent(place: Place) -> OpenFault {
+        OpenFault::System(place, Some(NO_ENTRY))
     }
 
     /// The name of the fault in its first line, if it has one, and what that line says is not told
@@ -167,17 +169,6 @@ impl<T: Drop> From<AllocFailed<T>> for OpenFault {
 impl From<ClaimFault> for OpenFault {
     fn from(fault: ClaimFault) -> OpenFault {
         OpenFault::Unclaimed(fault)
-    }
-}
-
-impl From<FoundLogFault> for OpenFault {
-    fn from(fault: FoundLogFault) -> OpenFault {
-        match fault {
-            FoundLogFault::OutOfMemory => OpenFault::OutOfMemory,
-            FoundLogFault::TooLong(len) => OpenFault::TooLong(len),
-            FoundLogFault::File(why) => OpenFault::of_device(Place::Log, &why),
-            FoundLogFault::Found(why, _) => OpenFault::Found(why),
-        }
     }
 }
 

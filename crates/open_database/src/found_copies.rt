@@ -3,13 +3,12 @@
 ghost use Rattle.std.specs.Prelude.{◌≡◌, IfOk, map};
 
 use crate::copy_trouble::CopyTrouble;
-use crate::told::Teller;
+use crate::database_folder::{DatabaseFolder, Standing};
+use crate::fault::NO_ENTRY;
 use copy_vault::{ArchiveFault, CompleteCopy, CopyId, read_archive};
 use saved_files::SavedName;
-use std::alloc::AllocError;
-use std::fs::File;
-use std::path::Path;
-use std::{fs, io};
+use std::alloc::{AllocError, Global};
+use std::io::{ErrorKind, Read};
 use system_files::{Noted, Notes};
 
 /// What stands under the name of a copy.
@@ -31,49 +30,50 @@ pub(crate) struct CopyFile {
 }
 
 /// Reads the files of the copies of these ids.
-pub(crate) fn read_copies(teller: &Teller<'_>, ids: &[CopyId]) -> Result<Vec<CopyFile>, AllocError>
+pub(crate) fn read_copies<F: DatabaseFolder>(
+    alloc: Global,
+    folder: &F,
+    ids: &[CopyId],
+) -> Result<Vec<CopyFile>, AllocError>
     ensures { IfOk result (λ files. map (λ file. file.id) files.items ≡ ids.now) }
 {
-    let mut copies = Vec::new(teller.rt.alloc());
+    let mut copies = Vec::new(alloc);
     for id in ids {
-        let found = read_copy(teller, *id)?;
+        let found = read_copy(alloc, folder, *id)?;
         copies.push(CopyFile { id: *id, found })?;
     }
     Ok(copies)
 }
 
-fn read_copy(teller: &Teller<'_>, id: CopyId) -> Result<FoundCopy, AllocError> {
-    let alloc = teller.rt.alloc();
+fn read_copy<F: DatabaseFolder>(
+    alloc: Global,
+    folder: &F,
+    id: CopyId,
+) -> Result<FoundCopy, AllocError> {
     let name = format!(in alloc; "{}", SavedName::Copy(id))?;
-    let path = Path::new(teller.folder).join(alloc, name.as_str())?;
-    match opened(teller.rt, path.as_path()) {
-        Ok(file) => read_file(teller, file),
-        Err(why) => Ok(FoundCopy::Unread(why)),
+    match folder.open_file(name.as_str()) {
+        Ok(Standing::File(file)) => read_file(alloc, file),
+        Ok(Standing::NoFile) => Ok(FoundCopy::Unread(CopyTrouble::NoFile)),
+        Ok(Standing::Nothing) => Ok(FoundCopy::Unread(CopyTrouble::System(Some(NO_ENTRY)))),
+        Err(error) => match (error.kind(), error.raw_os_error()) {
+            (ErrorKind::OutOfMemory, None) => Err(AllocError),
+            (_, code) => Ok(FoundCopy::Unread(CopyTrouble::System(code))),
+        },
     }
 }
 
-fn read_file(teller: &Teller<'_>, file: File) -> Result<FoundCopy, AllocError> {
+fn read_file<R: Read + Drop>(alloc: Global, file: R) -> Result<FoundCopy, AllocError> {
     let notes = Notes::new();
     let mut reader = Noted {
         file,
         notes: &notes,
     };
-    match read_archive(teller.rt.alloc(), &mut reader) {
+    match read_archive(alloc, &mut reader) {
         Ok(copy) => Ok(FoundCopy::Whole(copy)),
         Err(ArchiveFault::OutOfMemory) => Err(AllocError),
         Err(ArchiveFault::ReadFault) => Ok(FoundCopy::Unread(CopyTrouble::System(code_of(&notes)))),
         Err(fault) => Ok(FoundCopy::Wrong(CopyTrouble::Archive(fault))),
     }
-}
-
-/// Opens the file of a copy. Of what is no file, as a pipe, an open may never end.
-fn opened(files: &HostRuntime, path: Path<'_>) -> Result<File, CopyTrouble> {
-    let of_system = |error: io::Error| CopyTrouble::System(error.raw_os_error());
-    let there = fs::metadata(files, path).map_err(of_system)?;
-    if !there.is_file() {
-        return Err(CopyTrouble::NoFile);
-    }
-    fs::open(files, path).map_err(of_system)
 }
 
 /// The number that the system has for its last error.

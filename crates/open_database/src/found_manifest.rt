@@ -4,30 +4,28 @@ ghost use Rattle.std.specs.Prelude.{◌≡◌, IfSome, take};
 ghost use Rattle.manifest.specs.Sums.{HasSummed};
 ghost use Rattle.open_database.specs.Evidence.{BeginsAs, log_line};
 
+use crate::database_folder::DatabaseFolder;
 use crate::fault::OpenFault;
 use crate::names::{LOG, MANIFEST};
 use crate::place::Place;
-use crate::told::Teller;
 use crate::whole_file::read_whole;
 use manifest::{DatabaseName, FileSum, Manifest, Sums, decode};
-use std::fs;
-use std::io::Read;
-
-/// Where the system gives random bytes.
-pub(crate) const RANDOM: &str = "/dev/urandom";
+use std::alloc::Global;
 
 /// The manifest of a folder, if there is one. What has its name has to be one.
-pub(crate) fn read_manifest(
-    teller: &Teller<'_>,
+pub(crate) fn read_manifest<F: DatabaseFolder>(
+    alloc: Global,
+    folder: &F,
     is_there: bool,
 ) -> Result<Option<Manifest>, OpenFault> {
     if !is_there {
         return Ok(None);
     }
-    let Some(bytes) = read_whole(teller.rt, teller.folder, Place::Manifest, MANIFEST)? else {
-        return Ok(None);
+    // Where its name is there, and no file, it is a link that leads nowhere.
+    let Some(bytes) = read_whole(folder, Place::Manifest, MANIFEST)? else {
+        return Err(OpenFault::NoFile(Place::Manifest));
     };
-    match decode(teller.rt.alloc(), &bytes) {
+    match decode(alloc, &bytes) {
         Ok(manifest) => Ok(Some(manifest)),
         Err(why) => Err(OpenFault::BadManifest(why)),
     }
@@ -60,24 +58,20 @@ pub(crate) fn sums_of(file: &FileSum, bytes: &[u8]) -> Option<Sums>
 }
 
 /// The name of the database of a folder: that in its manifest, or one that is drawn.
-pub(crate) fn name_for(
-    files: &HostRuntime,
+pub(crate) fn name_for<F: DatabaseFolder>(
+    folder: &F,
     manifest: &Option<Manifest>,
 ) -> Result<DatabaseName, OpenFault> {
     match manifest {
         Some(manifest) => Ok(manifest.database()),
-        None => drawn_name(files),
+        None => drawn_name(folder),
     }
 }
 
 /// A new name.
-pub(crate) fn drawn_name(files: &HostRuntime) -> Result<DatabaseName, OpenFault> {
+pub(crate) fn drawn_name<F: DatabaseFolder>(folder: &F) -> Result<DatabaseName, OpenFault> {
     let mut bytes = [0; 16];
-    let mut file = match fs::open(files, RANDOM) {
-        Ok(file) => file,
-        Err(error) => return Err(OpenFault::NoName(error.raw_os_error())),
-    };
-    match file.read_exact(&mut bytes) {
+    match folder.draw(&mut bytes) {
         Ok(()) => Ok(DatabaseName(bytes)),
         Err(error) => Err(OpenFault::NoName(error.raw_os_error())),
     }

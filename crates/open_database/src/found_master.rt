@@ -1,16 +1,14 @@
 //! The file of the master record, as it is found in a folder.
 
+use crate::database_folder::{DatabaseFolder, Standing};
 use crate::fault::OpenFault;
 use crate::names::MASTER;
 use crate::place::Place;
-use crate::told::Teller;
+use crate::whole_file::read_first;
 use fuzzy_ckpt::Point;
 use log_records::Record;
 use log_store::{LogImage, MASTER_BYTES, Master, decode_master};
 use page_core::LSN_STEP;
-use std::io::Read;
-use std::path::Path;
-use std::{fs, io};
 
 /// What stands as the master record.
 #[derive(Clone, Copy, Debug, Drop)]
@@ -65,32 +63,27 @@ fn has_checkpoint(log: &LogImage, master: &Master) -> bool {
 }
 
 /// Reads the file of the master record, if it is there.
-pub(crate) fn read_master(teller: &Teller<'_>, is_there: bool) -> Result<FoundMaster, OpenFault> {
+pub(crate) fn read_master<F: DatabaseFolder>(
+    folder: &F,
+    is_there: bool,
+) -> Result<FoundMaster, OpenFault> {
     if !is_there {
         return Ok(FoundMaster::Absent);
     }
-    let path = Path::new(teller.folder).join(teller.rt.alloc(), MASTER)?;
-    let of_master = |error: io::Error| OpenFault::of(Place::Master, &error);
-    let there = fs::metadata(teller.rt, path.as_path()).map_err(of_master)?;
-    if !there.is_file() {
-        return Ok(FoundMaster::Wrong);
-    }
-    let mut file = fs::open(teller.rt, path.as_path()).map_err(of_master)?;
     // One byte more shows that there are more.
     let mut bytes = [0; MASTER_BYTES + 1];
-    let mut len = 0usize;
-    for _ in 0..=MASTER_BYTES {
-        let Some(rest) = bytes.get_mut(len..) else {
-            break;
-        };
-        let count = file.read(rest).map_err(of_master)?;
-        if count == 0 {
-            break;
-        }
-        len = len.saturating_add(count);
+    match read_first(folder, MASTER, &mut bytes) {
+        Ok(Standing::File(len)) => Ok(master_in(bytes.get(..len).unwrap_or(&[]))),
+        Ok(Standing::NoFile) => Ok(FoundMaster::Wrong),
+        Ok(Standing::Nothing) => Err(OpenFault::absent(Place::Master)),
+        Err(error) => Err(OpenFault::of(Place::Master, &error)),
     }
-    match decode_master(bytes.get(..len).unwrap_or(&[])) {
-        Some(master) => Ok(FoundMaster::Spelled(master)),
-        None => Ok(FoundMaster::Wrong),
+}
+
+/// The master record that these bytes spell, if they spell one.
+fn master_in(bytes: &[u8]) -> FoundMaster {
+    match decode_master(bytes) {
+        Some(master) => FoundMaster::Spelled(master),
+        None => FoundMaster::Wrong,
     }
 }

@@ -1,11 +1,12 @@
 //! What stands in a folder before it is opened.
 
+use crate::database_folder::DatabaseFolder;
 use crate::fault::OpenFault;
 use crate::names::{CLOSED, LOG, MANIFEST, MASTER, VOLUME, copy_of, is_harmless, is_unfinished};
 use crate::place::Place;
 use copy_vault::CopyId;
-use std::path::{Path, PathBuf};
-use std::{fs, io};
+use std::alloc::Global;
+use std::io;
 
 /// The files of a folder that are those of a database, by their names.
 #[derive(Drop)]
@@ -16,7 +17,7 @@ pub(crate) struct Inventory {
     pub has_closed: bool,
     pub has_manifest: bool,
     /// What older lives left unfinished.
-    unfinished: Vec<PathBuf>,
+    unfinished: Vec<String>,
     has_log: bool,
     has_volume: bool,
     /// The name of something that no database has.
@@ -25,8 +26,7 @@ pub(crate) struct Inventory {
 
 impl Inventory {
     /// Looks at a folder that is claimed.
-    pub fn of(files: &HostRuntime, folder: &str) -> Result<Inventory, OpenFault> {
-        let alloc = files.alloc();
+    pub fn of<F: DatabaseFolder>(alloc: Global, folder: &F) -> Result<Inventory, OpenFault> {
         let mut there = Inventory {
             copies: Vec::new(alloc),
             has_master: false,
@@ -37,13 +37,12 @@ impl Inventory {
             has_volume: false,
             stranger: None,
         };
-        for entry in fs::read_dir(files, folder).map_err(OpenFault::of_folder)? {
-            let entry = entry.map_err(OpenFault::of_folder)?;
-            let name = entry.file_name();
-            if is_unfinished(name) {
-                there.unfinished.push(Path::new(folder).join(alloc, name)?)?;
-            } else if !there.note(name)? && there.stranger.is_none() && !is_harmless(name) {
-                there.stranger = Some(String::from_str(alloc, name)?);
+        for name in folder.names().map_err(OpenFault::of_folder)? {
+            let text = name.as_str();
+            if is_unfinished(text) {
+                there.unfinished.push(name)?;
+            } else if !there.note(text)? && there.stranger.is_none() && !is_harmless(text) {
+                there.stranger = Some(name);
             }
         }
         there.copies.sort_unstable_by_key(|id| id.0);
@@ -56,8 +55,11 @@ impl Inventory {
     }
 
     /// Removes what older lives left unfinished.
-    pub fn clear(&self, files: &HostRuntime) -> Result<(), OpenFault> {
-        remove_all(files, &self.unfinished).map_err(OpenFault::of_folder)
+    pub fn clear<F: DatabaseFolder>(&self, folder: &mut F) -> Result<(), OpenFault>
+        requires { F.is_claimed folder.old }
+        ensures { F.is_claimed folder.new }
+    {
+        remove_all(folder, &self.unfinished).map_err(OpenFault::of_folder)
     }
 
     /// Notes the name of a file. Says whether it is one of a database.
@@ -98,9 +100,12 @@ impl Inventory {
     }
 }
 
-fn remove_all(files: &HostRuntime, paths: &[PathBuf]) -> io::Result<()> {
-    for path in paths {
-        fs::remove_file(files, path.as_path())?;
+fn remove_all<F: DatabaseFolder>(folder: &mut F, names: &[String]) -> io::Result<()>
+    requires { F.is_claimed folder.old }
+    ensures { F.is_claimed folder.new }
+{
+    for name in names {
+        folder.remove(name.as_str())?;
     }
     Ok(())
 }

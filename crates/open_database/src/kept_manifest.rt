@@ -9,6 +9,7 @@ ghost use Rattle.manifest.specs.Sums.{HasSummed, IsSumOf};
 ghost use Rattle.open_database.specs.Evidence.{log_line};
 ghost use Rattle.open_database.specs.Kept.{HasSummedLog, HaveSummedLine, bytes_below};
 
+use crate::database_folder::DatabaseFolder;
 use crate::fault::OpenFault;
 use crate::found_manifest::log_line;
 use crate::names::{LOG, MANIFEST, copy_of};
@@ -20,9 +21,6 @@ use manifest::{DatabaseName, Extent, FileSum, Manifest, Sums};
 use page_core::{LSN_STEP, Lsn};
 use saved_files::FileFault;
 use std::alloc::Global;
-use std::fs;
-use std::io::ErrorKind;
-use std::path::Path;
 
 /// How many lines a manifest may have.
 const MOST_LINES: u32 = 4_096;
@@ -120,8 +118,9 @@ impl KeptManifest {
     /// The manifest of a database of this name: that which was found, if it still stands there,
     /// without the lines of files that are gone, and of copies that were not taken up; or a new
     /// one. The log's header gives this page count, and its bytes that were named have this sum.
-    pub fn begin(
+    pub fn begin<F: DatabaseFolder>(
         teller: &Teller<'_>,
+        folder: &F,
         database: DatabaseName,
         found: (Option<Manifest>, Option<Sums>),
         pages: u32,
@@ -130,15 +129,15 @@ impl KeptManifest {
         ensures { IfOk result (λ it. (log : TheLog) → log.pages ≡ pages
             → HaveSummedLine found.1 (log_line found.0) log → HasSummedLog it.log log) }
     {
-        let mut kept = KeptManifest::new(teller.rt.alloc(), database, pages);
+        let mut kept = KeptManifest::new(teller.alloc, database, pages);
         let (found, sums) = found;
         let line = log_line(&found);
         // A line that this log does not begin with is of another one.
         let is_of_this = line.is_none() || sums.is_some();
         kept.log = LogSums::found(sums, line, pages);
         if let Some(it) = found {
-            if stands(teller, MANIFEST)? {
-                let (mut manifest, has_all) = without_lost(teller, it, Some(copies))?;
+            if stands(folder, MANIFEST)? {
+                let (mut manifest, has_all) = without_lost(teller, folder, it, Some(copies))?;
                 if !is_of_this {
                     manifest.remove(LOG);
                 }
@@ -161,14 +160,15 @@ impl KeptManifest {
 
 /// A manifest without the lines of files that are gone, and of copies that were not taken up, where
 /// copies were; and whether it has all of its lines.
-pub(crate) fn without_lost(
+pub(crate) fn without_lost<F: DatabaseFolder>(
     teller: &Teller<'_>,
+    folder: &F,
     mut manifest: Manifest,
     copies: Option<&Vault>,
 ) -> Result<(Manifest, bool), OpenFault> {
     let mut has_all = true;
     for _ in 0..MOST_LINES {
-        let Some(name) = lost_name(teller, &manifest, copies)? else {
+        let Some(name) = lost_name(teller.alloc, folder, &manifest, copies)? else {
             break;
         };
         let text = name.as_str();
@@ -183,15 +183,16 @@ pub(crate) fn without_lost(
 }
 
 /// The first file that a manifest names and that is gone, or is a copy that was not taken up.
-fn lost_name(
-    teller: &Teller<'_>,
+fn lost_name<F: DatabaseFolder>(
+    alloc: Global,
+    folder: &F,
     manifest: &Manifest,
     copies: Option<&Vault>,
 ) -> Result<Option<String>, OpenFault> {
     for entry in manifest.entries() {
         let name = entry.name();
-        if !is_used(copies, name) || !stands(teller, name)? {
-            return Ok(Some(String::from_str(teller.rt.alloc(), name)?));
+        if !is_used(copies, name) || !stands(folder, name)? {
+            return Ok(Some(String::from_str(alloc, name)?));
         }
     }
     Ok(None)
@@ -206,13 +207,8 @@ fn is_used(copies: Option<&Vault>, name: &str) -> bool {
 }
 
 /// Whether something in the folder has this name.
-fn stands(teller: &Teller<'_>, name: &str) -> Result<bool, OpenFault> {
-    let path = Path::new(teller.folder).join(teller.rt.alloc(), name)?;
-    match fs::symlink_metadata(teller.rt, path.as_path()) {
-        Ok(_) => Ok(true),
-        Err(error) if error.kind() == ErrorKind::NotFound => Ok(false),
-        Err(error) => Err(OpenFault::of_folder(error)),
-    }
+fn stands<F: DatabaseFolder>(folder: &F, name: &str) -> Result<bool, OpenFault> {
+    folder.has(name).map_err(OpenFault::of_folder)
 }
 
 /// Notes what is known of a file.

@@ -1,21 +1,21 @@
 //! The bytes behind a log's front, which are put aside before the log is cut there.
 
-ghost use Rattle.std.specs.Prelude.{◌↔◌, IsTrue, OnOk};
+ghost use Rattle.std.specs.Prelude.{◌≡◌, ◌≢◌, ◌↔◌, ◌++◌, IfOk, IsTrue, OnOk, codes, decimal};
+ghost use Rattle.std.specs.String.{string_bytes};
 ghost use Rattle.std.specs.Io.KnownBytes.{Appends};
 ghost use Rattle.saved_files.specs.FileFault.{Leaves};
 ghost use Rattle.open_database.specs.LeftOut.{IsKept, IsWorthKeeping};
 
+use crate::database_folder::DatabaseFolder;
 use crate::fault::OpenFault;
 use crate::names::LEFT_OUT;
 use crate::place::Place;
 use crate::told::Teller;
 use log_records::RECORD_BYTES;
 use page_core::write_out;
-use saved_files::{FileFault, Folder, PutFault, Source, put_in_place};
+use saved_files::{FileFault, PutFault, Source, put_in_place};
 use std::alloc::{AllocError, Global};
-use std::fs;
-use std::io::{ErrorKind, Write};
-use std::path::Path;
+use std::io::Write;
 
 /// How many files of bytes that were left out may stand in a folder.
 const MOST_LEFT_OUT: u32 = 1_000;
@@ -50,7 +50,7 @@ fn is_worth_keeping(bytes: &[u8]) -> bool
 
 /// Keeps the bytes behind a log in a file of their own, `log.left-out-1` or one with the next number
 /// that is free, whole and synced. Zeros, and less than a record, are not kept.
-pub(crate) fn put_aside<F: Folder>(
+pub(crate) fn put_aside<F: DatabaseFolder>(
     teller: &Teller<'_>,
     folder: &mut F,
     bytes: &[u8],
@@ -64,9 +64,9 @@ pub(crate) fn put_aside<F: Folder>(
     if !is_worth_keeping(bytes) {
         return Ok(());
     }
-    let name = free_name(teller)?;
+    let name = free_name(teller.alloc, folder)?;
     let mut source = LeftOut { bytes };
-    let put = put_in_place(folder, teller.rt.alloc(), name.as_str(), &mut source);
+    let put = put_in_place(folder, teller.alloc, name.as_str(), &mut source);
     if let Err(PutFault::Unmade(why) | PutFault::Unwritten(why) | PutFault::Unplaced(why)) = put {
         return Err(OpenFault::NotAside(why));
     }
@@ -77,20 +77,22 @@ pub(crate) fn put_aside<F: Folder>(
 }
 
 /// The first name for such bytes that nothing in the folder has.
-fn free_name(teller: &Teller<'_>) -> Result<String, OpenFault> {
-    let alloc = teller.rt.alloc();
+fn free_name<F: DatabaseFolder>(alloc: Global, folder: &F) -> Result<String, OpenFault>
+    ensures { IfOk result (λ it. string_bytes it ≢ codes "closed") }
+{
     for number in 1..=MOST_LEFT_OUT {
         let name = name_of(alloc, number)?;
-        let path = Path::new(teller.folder).join(alloc, name.as_str())?;
-        match fs::symlink_metadata(teller.rt, path.as_path()) {
-            Ok(_) => {}
-            Err(error) if error.kind() == ErrorKind::NotFound => return Ok(name),
+        match folder.has(name.as_str()) {
+            Ok(true) => {}
+            Ok(false) => return Ok(name),
             Err(error) => return Err(OpenFault::of_folder(error)),
         }
     }
     Err(OpenFault::NotAside(FileFault::WriteFault(0)))
 }
 
-fn name_of(alloc: Global, number: u32) -> Result<String, AllocError> {
+fn name_of(alloc: Global, number: u32) -> Result<String, AllocError>
+    ensures { IfOk result (λ it. string_bytes it ≡ LEFT_OUT.now ++ decimal number) }
+{
     format!(in alloc; "{LEFT_OUT}{number}")
 }

@@ -16,6 +16,7 @@ ghost use Rattle.open_database.specs.MadeFiles.{is_master};
 ghost use Rattle.open_database.specs.Pending.{Waits, WaitsFree, WaitsUnlessPlaced};
 ghost use Rattle.open_database.specs.Said.{IsAnswer, IsAnswerOr};
 
+use crate::database_folder::DatabaseFolder;
 use crate::engine_files::{place_copy, place_master};
 use crate::moved_aside::{move_copy_aside, move_master_aside};
 use crate::place::Place;
@@ -26,9 +27,9 @@ use aries_core::{Answer, Event, Refusal, Reply};
 use copy_vault::{CopyId, CopyWriteFault};
 use log_store::LogDevice;
 use page_store::PageStore;
-use saved_files::{FileFault, Folder, PutFault};
+use saved_files::{FileFault, PutFault};
 
-impl<F: Folder, S: PageStore, D: LogDevice + TellsWhy> Session<'_, F, S, D> {
+impl<F: DatabaseFolder, S: PageStore, D: LogDevice + TellsWhy> Session<'_, F, S, D> {
     /// Makes a copy complete, and puts its file in place. Where the engine has made it complete
     /// before, and its file is not in place, that is tried again.
     pub(crate) fn seal(&mut self, id: u32) -> Said

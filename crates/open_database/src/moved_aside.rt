@@ -6,16 +6,16 @@ ghost use Rattle.saved_files.specs.Saved.{name_of};
 ghost use Rattle.saved_files.specs.declared.saved_name.SavedName.TheVariants as saved;
 ghost use Rattle.open_database.specs.MovedAside.{IsFreed};
 
+use crate::database_folder::DatabaseFolder;
 use crate::names::{MANIFEST, MASTER};
 use crate::place::Place;
 use crate::told::Teller;
 use copy_vault::CopyId;
 use saved_files::{Folder, SavedName};
 use std::alloc::{AllocError, Global};
+use std::io;
 use std::io::ErrorKind;
 use std::marker::Model;
-use std::path::Path;
-use std::{fs, io};
 
 /// How many refused files of one name may stand in a folder.
 const MOST_REFUSED: u32 = 1_000;
@@ -45,7 +45,7 @@ impl FreeName {
 
 /// Gives what stands under the name of a copy another one: `copy-3.refused`, or one with a number
 /// where something has that name. Nothing is removed, and the new name lasts.
-pub(crate) fn move_copy_aside<F: Folder>(
+pub(crate) fn move_copy_aside<F: DatabaseFolder>(
     teller: &Teller<'_>,
     folder: &mut F,
     id: CopyId,
@@ -56,13 +56,16 @@ pub(crate) fn move_copy_aside<F: Folder>(
         (F.entries folder.new) (folder.new ≡ folder.old) (F.is_stored folder.new)) }
     ensures claimed { F.is_claimed folder.new }
 {
-    let name = format!(in teller.rt.alloc(); "{}", SavedName::Copy(id))?;
+    let name = format!(in teller.alloc; "{}", SavedName::Copy(id))?;
     move_aside(teller, folder, name.as_str(), Place::Copy(id))?;
     Ok(FreeName { id: id.0 })
 }
 
 /// The same of the master record.
-pub(crate) fn move_master_aside<F: Folder>(teller: &Teller<'_>, folder: &mut F) -> io::Result<()>
+pub(crate) fn move_master_aside<F: DatabaseFolder>(
+    teller: &Teller<'_>,
+    folder: &mut F,
+) -> io::Result<()>
     requires { F.is_claimed folder.old }
     ensures freed { OnOk result (IsFreed MASTER.now (F.entries folder.old)
         (F.entries folder.new) (folder.new ≡ folder.old) (F.is_stored folder.new)) }
@@ -72,7 +75,10 @@ pub(crate) fn move_master_aside<F: Folder>(teller: &Teller<'_>, folder: &mut F) 
 }
 
 /// The same of the manifest.
-pub(crate) fn move_manifest_aside<F: Folder>(teller: &Teller<'_>, folder: &mut F) -> io::Result<()>
+pub(crate) fn move_manifest_aside<F: DatabaseFolder>(
+    teller: &Teller<'_>,
+    folder: &mut F,
+) -> io::Result<()>
     requires { F.is_claimed folder.old }
     ensures freed { OnOk result (IsFreed MANIFEST.now (F.entries folder.old)
         (F.entries folder.new) (folder.new ≡ folder.old) (F.is_stored folder.new)) }
@@ -82,7 +88,7 @@ pub(crate) fn move_manifest_aside<F: Folder>(teller: &Teller<'_>, folder: &mut F
 }
 
 /// Gives what has this name another one, which lasts, if something has it.
-fn move_aside<F: Folder>(
+fn move_aside<F: DatabaseFolder>(
     teller: &Teller<'_>,
     folder: &mut F,
     name: &str,
@@ -93,10 +99,10 @@ fn move_aside<F: Folder>(
         (F.entries folder.new) (folder.new ≡ folder.old) (F.is_stored folder.new)) }
     ensures claimed { F.is_claimed folder.new }
 {
-    if is_free(teller, name)? {
+    if !folder.has(name)? {
         return Ok(());
     }
-    let aside = free_name(teller, name)?;
+    let aside = free_name(teller.alloc, folder, name)?;
     rename_lastingly(folder, name, aside.as_str())?;
     let new = aside.as_str();
     teller.tell(place, &format_args!("what stood there is now {new}"));
@@ -116,10 +122,10 @@ fn rename_lastingly<F: Folder>(folder: &mut F, from: &str, to: &str) -> io::Resu
 }
 
 /// The first name for a refused file of this name that nothing in the folder has.
-fn free_name(teller: &Teller<'_>, name: &str) -> io::Result<String> {
+fn free_name<F: DatabaseFolder>(alloc: Global, folder: &F, name: &str) -> io::Result<String> {
     for number in 1..=MOST_REFUSED {
-        let aside = name_aside(teller.rt.alloc(), name, number)?;
-        if is_free(teller, aside.as_str())? {
+        let aside = name_aside(alloc, name, number)?;
+        if !folder.has(aside.as_str())? {
             return Ok(aside);
         }
     }
@@ -132,15 +138,5 @@ fn name_aside(alloc: Global, name: &str, number: u32) -> Result<String, AllocErr
         format!(in alloc; "{name}.refused")
     } else {
         format!(in alloc; "{name}.refused-{number}")
-    }
-}
-
-/// Whether nothing in the folder has this name.
-fn is_free(teller: &Teller<'_>, name: &str) -> io::Result<bool> {
-    let path = Path::new(teller.folder).join(teller.rt.alloc(), name)?;
-    match fs::symlink_metadata(teller.rt, path.as_path()) {
-        Ok(_) => Ok(false),
-        Err(error) if error.kind() == ErrorKind::NotFound => Ok(true),
-        Err(error) => Err(error),
     }
 }

@@ -1,42 +1,46 @@
 //! Opens a database in a folder, and answers the lines of standard input.
 
-ghost use Rattle.std.specs.Prelude.{ℕ, ◌≡◌, IfOk, IfSome, List, Option, Some};
+ghost use Rattle.std.specs.Prelude.{ℕ, ◌≡◌, ◌≢◌, IfOk, IfSome, List, Option, Some};
 ghost use Rattle.buffer_pool.specs.Pool.{IsFrameCount};
 ghost use Rattle.log_records.specs.Log.{IsPageCount};
 ghost use Rattle.open_database.specs.Calls.{Lives};
-ghost use Rattle.open_database.specs.Opened.{Begins, IsNew};
+ghost use Rattle.open_database.specs.Opened.{Begins, IsNew, len_of};
 ghost use Rattle.open_database.specs.Session.{LivesByLines, ServesLines};
-ghost use Rattle.open_database.specs.declared.log_file.LogFile.{LogFile};
+ghost use Rattle.open_database.specs.WholeLives.{LivedByLines};
+ghost use Rattle.open_database.specs.declared.open.OpenEnd.TheVariants.{Failed};
 
 use crate::begin::begin;
-use crate::claims_soon::ClaimsSoon;
+use crate::database_folder::DatabaseFolder;
 use crate::fault::OpenFault;
-use crate::file_limit::low_limit;
-use crate::file_session::{FileSession, OpenedSession, session_in};
 use crate::first_line::FirstLine;
 use crate::found_manifest::{log_line, name_for, read_manifest};
 use crate::inventory::Inventory;
 use crate::kept_manifest::KeptManifest;
 use crate::line_reader::LineReader;
-use crate::log_file::{LogFile, of_log, open_log};
+use crate::log_file::{LogFile, is_headless, of_log};
+use crate::opened_session::{OpenedSession, session_in};
 use crate::place::Place;
 use crate::prompt::Prompted;
 use crate::restarted::{Reopened, reopen};
-use crate::session::ServeFault;
+use crate::session::{ServeFault, Session, TellsWhy};
+use crate::streams::Streams;
+use crate::system_database::{SystemDatabase, output};
 use crate::told::Teller;
 use crate::unplaced_point::UnplacedPoint;
 use crate::volume_file::check_volume;
 use aries_core::Setup;
 use fuzzy_ckpt::Point;
 use log_records::{HEADER_BYTES, MAX_RECORDS};
+use log_store::LogDevice;
 use manifest::Manifest;
 use page_core::write_out;
+use page_store::PageStore;
 use saved_files::Folder;
-use std::alloc::AllocError;
+use std::alloc::{AllocError, Global};
 use std::fs::File;
-use std::io::{IsTerminal, Write};
+use std::io::{IsTerminal, Read, Write};
 use std::{fs, io};
-use system_files::{Noted, Notes, Patient, SystemFolder};
+use system_files::{Noted, Notes, Patient};
 
 /// Which database is to be opened.
 #[derive(Clone, Copy)]
@@ -72,16 +76,75 @@ pub enum OpenEnd {
 pub fn open_folder(rt: &HostRuntime, call: &OpenCall<'_>) -> OpenEnd
     requires pages { IfSome call.now.pages IsPageCount }
     requires frames { IsFrameCount call.now.frames }
+    ensures { result ≢ Failed → LivedByLines call.now.pages call.now.frames }
 {
     // Where a standard stream is closed, a file of the database must not get its number.
     let _held = held(rt);
     let (notes, store_notes) = (Notes::new(), Notes::new());
-    let teller = Teller {
+    let (input_notes, output_notes) = (Notes::new(), Notes::new());
+    let teller = Teller::new(rt, call.folder);
+    let folder = SystemDatabase::new(rt, call.folder, (&notes, &store_notes));
+    let input = Prompted {
+        stream: Patient {
+            stream: Noted {
+                file: rt.stdin(),
+                notes: &input_notes,
+            },
+            rt,
+        },
         rt,
-        folder: call.folder,
+        is_terminal: rt.stdin().is_terminal(),
     };
-    let folder = SystemFolder::new(rt, rt.alloc(), call.folder, &notes);
-    match session_in(&teller, folder, (&notes, &store_notes), call) {
+    let streams = Streams {
+        input,
+        output: output(rt, &output_notes),
+        input_notes: &input_notes,
+        output_notes: &output_notes,
+    };
+    lived(&teller, folder, (&notes, &store_notes), streams, call)
+}
+
+/// The same in any folder, with any input and output. Why it failed is not told.
+pub fn open_in<F: DatabaseFolder + Drop, R: Read + Drop, W: Write + Drop>(
+    alloc: Global,
+    folder: F,
+    call: &OpenCall<'_>,
+    input: R,
+    output: W,
+) -> OpenEnd
+    requires pages { IfSome call.now.pages IsPageCount }
+    requires frames { IsFrameCount call.now.frames }
+    ensures { result ≢ Failed → LivedByLines call.now.pages call.now.frames }
+{
+    let notes = Notes::new();
+    let streams = Streams {
+        input,
+        output,
+        input_notes: &notes,
+        output_notes: &notes,
+    };
+    lived(
+        &Teller::silent(alloc),
+        folder,
+        (&notes, &notes),
+        streams,
+        call,
+    )
+}
+
+/// Opens the database in a folder, answers all lines, and closes it.
+fn lived<'a, F: DatabaseFolder + Drop, R: Read + Drop, W: Write + Drop>(
+    teller: &Teller<'a>,
+    folder: F,
+    notes: (&'a Notes, &'a Notes),
+    streams: Streams<'_, R, W>,
+    call: &OpenCall<'_>,
+) -> OpenEnd
+    requires pages { IfSome call.now.pages IsPageCount }
+    requires frames { IsFrameCount call.now.frames }
+    ensures { result ≢ Failed → LivedByLines call.now.pages call.now.frames }
+{
+    match session_in(teller, folder, notes, call) {
         Ok(
             OpenedSession {
                 mut session,
@@ -90,11 +153,11 @@ pub fn open_folder(rt: &HostRuntime, call: &OpenCall<'_>) -> OpenEnd
                 point,
             },
         ) => {
-            live(&mut session, &mut kept, first, point);
+            live(&mut session, &mut kept, (first, point), streams);
             end_of(&session, call)
         }
         Err(fault) => {
-            teller.tell_fault(&fault, &notes);
+            teller.tell_fault(&fault, notes.0);
             OpenEnd::Failed
         }
     }
@@ -110,62 +173,59 @@ pub(crate) fn held(rt: &HostRuntime) -> [io::Result<File>; 3] {
 }
 
 /// Claims the folder and opens the database in it.
-pub(crate) fn opened<'a, F: ClaimsSoon>(
+pub(crate) fn opened<F: DatabaseFolder>(
     teller: &Teller<'_>,
     folder: &mut F,
     call: &OpenCall<'_>,
-    notes: &'a Notes,
-) -> Result<Reopened<'a>, OpenFault>
+) -> Result<Reopened<F::Volume, F::LogDisk>, OpenFault>
     requires pages { IfSome call.now.pages IsPageCount }
     requires frames { IsFrameCount call.now.frames }
-    ensures begins { IfOk result (λ it. (log : Option LogFile) × (ids : List ℕ)
+    ensures begins { IfOk result (λ it. (log : Option ℕ) × (ids : List ℕ)
         × Begins log ids call.now.pages call.now.frames it.engine.state) }
     ensures claimed { IfOk result (λ _. F.is_claimed folder.new) }
 {
-    if let Some(most) = low_limit(teller.rt)? {
+    if let Some(most) = folder.low_limit()? {
         return Err(OpenFault::SmallFiles(most));
     }
     folder.claim_or_wait()?;
-    let there = Inventory::of(teller.rt, call.folder)?;
-    let log = open_log(teller.rt, call.folder)?;
-    open_from(teller, folder, call, log, &there, notes)
+    let there = Inventory::of(teller.alloc, folder)?;
+    let log = folder.open_log(true)?;
+    open_from(teller, folder, call, log, &there)
 }
 
 /// Opens the database whose log has this file, or makes a new one where that never had a header.
-fn open_from<'a, F: Folder>(
+fn open_from<F: DatabaseFolder>(
     teller: &Teller<'_>,
     folder: &mut F,
     call: &OpenCall<'_>,
-    log: Option<LogFile>,
+    log: Option<LogFile<F::Log>>,
     there: &Inventory,
-    notes: &'a Notes,
-) -> Result<Reopened<'a>, OpenFault>
+) -> Result<Reopened<F::Volume, F::LogDisk>, OpenFault>
     requires pages { IfSome call.now.pages IsPageCount }
     requires frames { IsFrameCount call.now.frames }
     requires claimed { F.is_claimed folder.old }
-    ensures begins { IfOk result (λ it. Begins log there.now.copies.items call.now.pages
+    ensures begins { IfOk result (λ it. Begins (len_of log) there.now.copies.items call.now.pages
         call.now.frames it.engine.state) }
     ensures claimed { F.is_claimed folder.new }
 {
     let Some(log) = log else {
-        return begun(teller, folder, call, None, there, notes);
+        return begun(teller, folder, call, None, there);
     };
-    match log.is_headless() {
-        Ok(true) => begun(teller, folder, call, Some(log.file), there, notes),
-        Ok(false) => reopen(teller, folder, call, log, there, notes),
+    match is_headless::<F>(&log) {
+        Ok(true) => begun(teller, folder, call, Some(log.file), there),
+        Ok(false) => reopen(teller, folder, call, log, there),
         Err(error) => Err(of_log(error)),
     }
 }
 
 /// Makes a new database in a folder that is empty, or in which one was not made to its end.
-fn begun<'a, F: Folder>(
+fn begun<F: DatabaseFolder>(
     teller: &Teller<'_>,
     folder: &mut F,
     call: &OpenCall<'_>,
-    log: Option<File>,
+    log: Option<F::Log>,
     there: &Inventory,
-    notes: &'a Notes,
-) -> Result<Reopened<'a>, OpenFault>
+) -> Result<Reopened<F::Volume, F::LogDisk>, OpenFault>
     requires pages { IfSome call.now.pages IsPageCount }
     requires frames { IsFrameCount call.now.frames }
     requires claimed { F.is_claimed folder.old }
@@ -174,20 +234,21 @@ fn begun<'a, F: Folder>(
     ensures stored { IfOk result (λ _. F.is_stored folder.new) }
     ensures claimed { F.is_claimed folder.new }
 {
-    let manifest = manifest_of_new(teller, there)?;
-    let pages = count_of_new(teller, call, there)?;
-    let database = name_for(teller.rt, &manifest)?;
+    let alloc = teller.alloc;
+    let manifest = manifest_of_new(alloc, folder, there)?;
+    let pages = count_of_new(alloc, folder, call, there)?;
+    let database = name_for(folder, &manifest)?;
     let setup = Setup {
         pages,
         frames: call.frames,
     };
-    let engine = begin(teller.rt, folder, call.folder, log, setup, notes)?;
+    let engine = begin(alloc, folder, log, setup)?;
     Ok(Reopened {
         engine,
         first: FirstLine::New(pages),
         point: None,
         is_master_wrong: false,
-        unread: Vec::new(teller.rt.alloc()),
+        unread: Vec::new(alloc),
         database,
         manifest,
         sums: None,
@@ -195,8 +256,12 @@ fn begun<'a, F: Folder>(
 }
 
 /// The manifest that stands where there is no log. It must not name one.
-fn manifest_of_new(teller: &Teller<'_>, there: &Inventory) -> Result<Option<Manifest>, OpenFault> {
-    let manifest = read_manifest(teller, there.has_manifest)?;
+fn manifest_of_new<F: DatabaseFolder>(
+    alloc: Global,
+    folder: &F,
+    there: &Inventory,
+) -> Result<Option<Manifest>, OpenFault> {
+    let manifest = read_manifest(alloc, folder, there.has_manifest)?;
     match log_line(&manifest) {
         Some(file) if file.bytes > HEADER_BYTES as u64 => Err(OpenFault::LogLost(Place::Manifest)),
         _ => Ok(manifest),
@@ -205,49 +270,54 @@ fn manifest_of_new(teller: &Teller<'_>, there: &Inventory) -> Result<Option<Mani
 
 /// How many pages a new database is to have, where one may be made in this folder. What an older
 /// life left unfinished there is removed.
-fn count_of_new(
-    teller: &Teller<'_>,
+fn count_of_new<F: DatabaseFolder>(
+    alloc: Global,
+    folder: &mut F,
     call: &OpenCall<'_>,
     there: &Inventory,
 ) -> Result<u32, OpenFault>
-    ensures { IfOk result (λ pages. call.now.pages ≡ Some pages) }
+    requires { F.is_claimed folder.old }
+    ensures told { IfOk result (λ pages. call.now.pages ≡ Some pages) }
+    ensures claimed { F.is_claimed folder.new }
 {
     if let Some(place) = there.widow() {
         return Err(OpenFault::LogLost(place));
     }
     if let Some(name) = &there.stranger {
-        return Err(OpenFault::Stranger(String::from_str(teller.rt.alloc(), name)?));
+        return Err(OpenFault::Stranger(String::from_str(alloc, name)?));
     }
     let Some(pages) = call.pages else {
         return Err(OpenFault::NoCount);
     };
-    check_volume(teller.rt, call.folder)?;
-    there.clear(teller.rt)?;
+    check_volume(folder)?;
+    there.clear(folder)?;
     Ok(pages)
 }
 
 /// Puts the master record in place, answers all lines, and closes the database.
-fn live(
-    session: &mut FileSession<'_>,
+fn live<F: DatabaseFolder, S: PageStore, D: LogDevice + TellsWhy, R: Read + Drop, W: Write + Drop>(
+    session: &mut Session<'_, F, S, D>,
     kept: &mut KeptManifest,
-    first: FirstLine,
-    point: Option<Point>,
+    begun: (FirstLine, Option<Point>),
+    streams: Streams<'_, R, W>,
 )
+    requires { F.is_claimed session.old.folder }
     ensures lives { Lives session.old.engine.state session.new.engine.state }
     // The calls are those of the lines, and those of a closing.
     ensures lines { LivesByLines session.old.engine.state session.new.engine.state }
 {
-    let (input, output) = (Notes::new(), Notes::new());
+    let (first, point) = begun;
+    let (input, output) = (streams.input_notes, streams.output_notes);
     warn_of_room(session);
     put_point(session, point);
     session.keep_placed(kept);
-    let served = serve_all(session, kept, first, &input, &output);
-    note_served(session, served, &input, &output);
+    let served = serve_all(session, kept, first, streams);
+    note_served(session, served, input, output);
     session.close(kept);
 }
 
 /// Tells a person that nine tenths of a log are used, if they are.
-fn warn_of_room(session: &FileSession<'_>) {
+fn warn_of_room<F: Folder, S: PageStore, D: LogDevice>(session: &Session<'_, F, S, D>) {
     let records = session.engine.log().records().len();
     if records.saturating_mul(10) >= MAX_RECORDS.saturating_mul(9) {
         let left = MAX_RECORDS.saturating_sub(records);
@@ -259,8 +329,13 @@ fn warn_of_room(session: &FileSession<'_>) {
 }
 
 /// Puts the master record of the log's last checkpoint in place, if it is not there.
-pub(crate) fn put_point(session: &mut FileSession<'_>, point: Option<Point>)
-    ensures { session.new.engine ≡ session.old.engine }
+pub(crate) fn put_point<F: DatabaseFolder, S: PageStore, D: LogDevice + TellsWhy>(
+    session: &mut Session<'_, F, S, D>,
+    point: Option<Point>,
+)
+    requires { F.is_claimed session.old.folder }
+    ensures engine { session.new.engine ≡ session.old.engine }
+    ensures claimed { F.is_claimed session.new.folder }
 {
     let Some(point) = point else {
         return;
@@ -276,48 +351,42 @@ pub(crate) fn put_point(session: &mut FileSession<'_>, point: Option<Point>)
     }
 }
 
-/// Writes the first line, and answers the lines of standard input.
-fn serve_all(
-    session: &mut FileSession<'_>,
+/// Writes the first line, and answers the lines of the input.
+fn serve_all<
+    F: DatabaseFolder,
+    S: PageStore,
+    D: LogDevice + TellsWhy,
+    R: Read + Drop,
+    W: Write + Drop,
+>(
+    session: &mut Session<'_, F, S, D>,
     kept: &mut KeptManifest,
     first: FirstLine,
-    input: &Notes,
-    output: &Notes,
+    streams: Streams<'_, R, W>,
 ) -> Result<(), ServeFault>
-    ensures { ServesLines session.old.engine.state session.new.engine.state }
+    requires { F.is_claimed session.old.folder }
+    ensures served { ServesLines session.old.engine.state session.new.engine.state }
+    ensures claimed { F.is_claimed session.new.folder }
 {
-    let rt = session.teller.rt;
-    let reader = Prompted {
-        stream: Patient {
-            stream: Noted {
-                file: rt.stdin(),
-                notes: input,
-            },
-            rt,
-        },
-        rt,
-        is_terminal: rt.stdin().is_terminal(),
-    };
-    let mut writer = Patient {
-        stream: Noted {
-            file: io::writer(rt),
-            notes: output,
-        },
-        rt,
-    };
-    let mut lines = LineReader::new(rt.alloc(), reader)?;
-    write_first(session, first, &mut writer)?;
-    session.serve(&mut lines, &mut writer, kept)
+    let Streams {
+        input,
+        mut output,
+        ..
+    } = streams;
+    let mut lines = LineReader::new(session.alloc, input)?;
+    write_first(session, first, &mut output)?;
+    session.serve(&mut lines, &mut output, kept)
 }
 
 /// Takes note of lines that came to an end before the input did, and tells why.
-fn note_served(
-    session: &mut FileSession<'_>,
+fn note_served<F: Folder, S: PageStore, D: LogDevice>(
+    session: &mut Session<'_, F, S, D>,
     served: Result<(), ServeFault>,
     input: &Notes,
     output: &Notes,
 )
-    ensures { session.new.engine ≡ session.old.engine }
+    ensures engine { session.new.engine ≡ session.old.engine }
+    ensures folder { session.new.folder ≡ session.old.folder }
 {
     if let Err(fault) = served {
         session.has_failed = true;
@@ -325,8 +394,8 @@ fn note_served(
     }
 }
 
-fn write_first<W: Write>(
-    session: &FileSession<'_>,
+fn write_first<F: Folder, S: PageStore, D: LogDevice, W: Write>(
+    session: &Session<'_, F, S, D>,
     first: FirstLine,
     writer: &mut W,
 ) -> Result<(), ServeFault> {
@@ -338,11 +407,14 @@ fn write_first<W: Write>(
 }
 
 /// How it went.
-fn end_of(session: &FileSession<'_>, call: &OpenCall<'_>) -> OpenEnd {
+fn end_of<F: Folder, S: PageStore, D: LogDevice>(
+    session: &Session<'_, F, S, D>,
+    call: &OpenCall<'_>,
+) -> OpenEnd {
     let is_strict = call.strict && session.tally.has_refused();
     if is_strict {
         let tally = session.tally;
-        let _ = eprintln!(session.teller.rt; "imgcopy: {tally}");
+        session.teller.line(&format_args!("imgcopy: {tally}"));
     }
     if session.has_failed {
         OpenEnd::Failed

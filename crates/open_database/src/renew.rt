@@ -5,22 +5,25 @@ ghost use Rattle.log_records.specs.Log.{IsPageCount};
 ghost use Rattle.open_database.specs.ClosedVolume.{IsOfClosed, IsRenewed, WasRenewed};
 ghost use Rattle.open_database.specs.declared.open.OpenEnd.TheVariants.{Failed, Well};
 
-use crate::begin::{FileEngine, begin};
+use crate::begin::begin;
 use crate::checkpoint_and_copy::checkpoint_and_copy;
-use crate::claims_soon::ClaimsSoon;
 use crate::closed_volume::{have_same_numbers, read_closed};
+use crate::database_folder::DatabaseFolder;
 use crate::fault::OpenFault;
-use crate::file_session::session_on;
 use crate::fill::{fill, records_for};
 use crate::found_manifest::drawn_name;
 use crate::kept_manifest::KeptManifest;
 use crate::open::{OpenEnd, held};
+use crate::opened_session::session_on;
 use crate::pending::Pending;
+use crate::system_database::{SystemDatabase, output};
 use crate::told::Teller;
-use aries_core::Setup;
+use aries_core::{Engine, Setup};
+use file_devices::FileLog;
 use log_records::MAX_RECORDS;
 use manifest::DatabaseName;
 use page_core::Page;
+use page_store::PageStore;
 use saved_files::Folder;
 use std::alloc::{AllocError, Global};
 use std::io::ErrorKind;
@@ -58,11 +61,8 @@ pub fn renew_folder(rt: &HostRuntime, call: &RenewCall<'_>) -> OpenEnd
     // Where a standard stream is closed, a file of the database must not get its number.
     let _held = held(rt);
     let notes = Notes::new();
-    let teller = Teller {
-        rt,
-        folder: call.old,
-    };
-    let mut old = SystemFolder::new(rt, rt.alloc(), call.old, &notes);
+    let teller = Teller::new(rt, call.old);
+    let mut old = SystemDatabase::new(rt, call.old, (&notes, &notes));
     match old_pages(&teller, &mut old) {
         Ok(pages) => renewed(rt, call, &pages),
         Err(fault) => failed(&teller, &fault, &notes),
@@ -77,11 +77,11 @@ fn failed(teller: &Teller<'_>, fault: &OpenFault, notes: &Notes) -> OpenEnd
 }
 
 /// The pages of the old database, if they leave room in a new log.
-fn old_pages<F: ClaimsSoon>(teller: &Teller<'_>, folder: &mut F) -> Result<Vec<Page>, OpenFault>
+fn old_pages<F: DatabaseFolder>(teller: &Teller<'_>, folder: &mut F) -> Result<Vec<Page>, OpenFault>
     ensures { IfOk result (λ pages. IsOfClosed pages.items) }
 {
     folder.claim_or_wait()?;
-    let pages = read_closed(teller)?;
+    let pages = read_closed(teller, folder)?;
     let needed = records_for(&pages);
     if needed > MOST_RECORDS {
         return Err(OpenFault::TooFull {
@@ -98,20 +98,13 @@ fn renewed(rt: &HostRuntime, call: &RenewCall<'_>, pages: &[Page]) -> OpenEnd
     ensures { result ≡ Well → IsRenewed pages.now }
 {
     let notes = Notes::new();
-    let teller = Teller {
-        rt,
-        folder: call.folder,
-    };
+    let teller = Teller::new(rt, call.folder);
     let mut parent = SystemFolder::new(rt, rt.alloc(), call.folder, &notes);
     let (name, path) = match made_folder(rt, &mut parent, call) {
         Ok(made) => made,
         Err(fault) => return failed(&teller, &fault, &notes),
     };
-    let inside = Teller {
-        rt,
-        folder: path.as_str(),
-    };
-    let end = filled(&inside, pages);
+    let end = filled(rt, path.as_str(), pages);
     if end != OpenEnd::Well {
         return end;
     }
@@ -152,18 +145,21 @@ fn put(parent: &mut SystemFolder<'_>, from: &str, name: &str) -> io::Result<()> 
 }
 
 /// Makes a database of these pages in an empty folder, closes it, and reads it again.
-fn filled(teller: &Teller<'_>, pages: &[Page]) -> OpenEnd
+fn filled(rt: &HostRuntime, path: &str, pages: &[Page]) -> OpenEnd
     requires { IsPageCount (length pages.now) }
     ensures { result ≡ Well → IsRenewed pages.now }
 {
-    let end = lived(teller.rt, teller.folder, pages);
+    let end = lived(rt, path, pages);
     if end != OpenEnd::Well {
         return end;
     }
-    match read_closed(teller) {
+    let notes = Notes::new();
+    let teller = Teller::new(rt, path);
+    let folder = SystemDatabase::new(rt, path, (&notes, &notes));
+    match read_closed(&teller, &folder) {
         Ok(new) if have_same_numbers(pages, &new) => OpenEnd::Well,
-        Ok(_) => failed(teller, &OpenFault::OtherNumbers, &Notes::new()),
-        Err(fault) => failed(teller, &fault, &Notes::new()),
+        Ok(_) => failed(&teller, &OpenFault::OtherNumbers, &notes),
+        Err(fault) => failed(&teller, &fault, &notes),
     }
 }
 
@@ -172,32 +168,41 @@ fn lived(rt: &HostRuntime, path: &str, pages: &[Page]) -> OpenEnd
     requires { IsPageCount (length pages.now) }
 {
     let (notes, store_notes) = (Notes::new(), Notes::new());
-    let teller = Teller { rt, folder: path };
-    let mut folder = SystemFolder::new(rt, rt.alloc(), path, &notes);
-    match begun(&teller, &mut folder, pages, &store_notes) {
-        Ok(begun) => finished(&teller, folder, (&notes, &store_notes), begun),
+    let teller = Teller::new(rt, path);
+    let mut folder = SystemDatabase::new(rt, path, (&notes, &store_notes));
+    match begun(&teller, &mut folder, pages) {
+        Ok(begun) => finished(rt, &teller, folder, (&notes, &store_notes), begun),
         Err(fault) => failed(&teller, &fault, &notes),
     }
 }
 
 /// A new engine with these numbers.
-fn begun<'a, F: ClaimsSoon>(
+fn begun<F: DatabaseFolder>(
     teller: &Teller<'_>,
     folder: &mut F,
     pages: &[Page],
-    notes: &'a Notes,
-) -> Result<(FileEngine<'a>, Pending, DatabaseName), OpenFault>
+) -> Result<
+    (
+        Engine<F::Volume, FileLog<F::LogDisk>>,
+        Pending,
+        DatabaseName,
+    ),
+    OpenFault,
+>
     requires { IsPageCount (length pages.now) }
 {
+    if let Some(most) = folder.low_limit()? {
+        return Err(OpenFault::SmallFiles(most));
+    }
     folder.claim_or_wait()?;
-    let pending = Pending::new(teller.rt.alloc())?;
-    let database = drawn_name(teller.rt)?;
+    let pending = Pending::new(teller.alloc)?;
+    let database = drawn_name(folder)?;
     let count = pages.len() as u32;
     let setup = Setup {
         pages: count,
         frames: count,
     };
-    let mut engine = begin(teller.rt, folder, teller.folder, None, setup, notes)?;
+    let mut engine = begin(teller.alloc, folder, None, setup)?;
     match fill(&mut engine, pages) {
         Ok(()) => Ok((engine, pending, database)),
         Err(why) => Err(OpenFault::Unfilled(why)),
@@ -205,16 +210,18 @@ fn begun<'a, F: ClaimsSoon>(
 }
 
 /// Has a new database make a checkpoint and a copy, and closes it.
-fn finished<'a>(
+fn finished<'a, S: PageStore + Drop>(
+    rt: &HostRuntime,
     teller: &Teller<'a>,
-    folder: SystemFolder<'a>,
+    folder: SystemDatabase<'a>,
     notes: (&'a Notes, &'a Notes),
-    begun: (FileEngine<'a>, Pending, DatabaseName),
+    begun: (Engine<S, FileLog>, Pending, DatabaseName),
 ) -> OpenEnd {
     let (engine, pending, database) = begun;
-    let mut kept = KeptManifest::new(teller.rt.alloc(), database, engine.log().header_pages());
+    let mut kept = KeptManifest::new(teller.alloc, database, engine.log().header_pages());
     let mut session = session_on(teller, folder, notes, engine, pending);
-    let copied = checkpoint_and_copy(&mut session, None);
+    let written = Notes::new();
+    let copied = checkpoint_and_copy(&mut session, None, &mut output(rt, &written));
     session.close(&mut kept);
     if copied.is_some() && !session.has_failed {
         OpenEnd::Well

@@ -10,15 +10,17 @@ ghost use Rattle.log_records.specs.Log.{IsLog, IsPageCount, log_bytes, page_coun
 ghost use Rattle.log_rules.specs.Linked.{IsLinked};
 ghost use Rattle.open_database.specs.Closed.{IsVouched};
 ghost use Rattle.open_database.specs.Copies.{TakesUp, ids_unread};
-ghost use Rattle.saved_files.specs.Folder.{Changes, IsSame};
+ghost use Rattle.saved_files.specs.Folder.{Changes, KeepsOthers};
 ghost use Rattle.open_database.specs.Evidence.{LacksNothing};
-ghost use Rattle.open_database.specs.LeftOut.{IsKept, IsWorthKeeping, WasKept, behind};
+ghost use Rattle.open_database.specs.LeftOut.{IsKept, IsWorthKeeping, WasKept};
+ghost use Rattle.open_database.specs.LeftOut.{behind};
 ghost use Rattle.open_database.specs.Master.{spelled};
 ghost use Rattle.open_database.specs.Opened.{GoesOnFromFile, GoesOnWith};
 
-use crate::begin::{FileEngine, code_of};
+use crate::begin::code_of;
 use crate::closed_note::{ClosedNote, read_note, remove_note};
 use crate::copies::take_up;
+use crate::database_folder::DatabaseFolder;
 use crate::evidence::{Loss, Witness};
 use crate::fault::OpenFault;
 use crate::first_line::FirstLine;
@@ -27,14 +29,15 @@ use crate::found_manifest::{log_line, name_for, read_manifest};
 use crate::found_master::{FoundMaster, read_master};
 use crate::inventory::Inventory;
 use crate::left_out::put_aside;
-use crate::log_file::LogFile;
+use crate::log_file::{LogFile, found_in};
 use crate::moved_aside::{move_copy_aside, move_manifest_aside, move_master_aside};
+use crate::names::CLOSED;
 use crate::open::OpenCall;
 use crate::place::Place;
 use crate::told::Teller;
-use crate::told_store::ToldStore;
 use crate::volume_file::{check_volume, volume_of};
-use engine_restart::{FoundLog, Restarted, found_log, restart, store_of};
+use aries_core::Engine;
+use engine_restart::{FoundLog, Restarted, restart, store_of};
 use file_devices::FileLog;
 use fuzzy_ckpt::{Point, checkpoints_of};
 use log_front::Front;
@@ -42,14 +45,14 @@ use log_records::Record;
 use log_store::LogImage;
 use manifest::{DatabaseName, Manifest, Sums};
 use page_core::Lsn;
-use saved_files::Folder;
+use page_store::PageStore;
+use sqlite_disk::Disk;
 use std::alloc::{AllocError, Global};
-use system_files::Notes;
 
 /// An engine that goes on with a database of an older life.
 #[derive(Drop)]
-pub(crate) struct Reopened<'a> {
-    pub engine: FileEngine<'a>,
+pub(crate) struct Reopened<S: PageStore, D: Disk + Drop> {
+    pub engine: Engine<S, FileLog<D>>,
     pub first: FirstLine,
     /// The last complete checkpoint of its log, where the master record does not name it.
     pub point: Option<Point>,
@@ -66,8 +69,8 @@ pub(crate) struct Reopened<'a> {
 
 /// What was found in a folder, before anything is changed there.
 #[derive(Drop)]
-struct Remains {
-    log: FoundLog,
+struct Remains<D: Disk> {
+    log: FoundLog<FileLog<D>>,
     others: Others,
 }
 
@@ -83,31 +86,35 @@ pub(crate) struct Others {
 /// Opens a database again from the file of its log, and from those of the copies there that are
 /// sound. The volume is made anew. Where the log lacks what was forced, it is not opened, unless the
 /// call says that what is left is to be opened.
-pub(crate) fn reopen<'a, F: Folder>(
+pub(crate) fn reopen<F: DatabaseFolder>(
     teller: &Teller<'_>,
     folder: &mut F,
     call: &OpenCall<'_>,
-    log: LogFile,
+    log: LogFile<F::Log>,
     there: &Inventory,
-    notes: &'a Notes,
-) -> Result<Reopened<'a>, OpenFault>
+) -> Result<Reopened<F::Volume, F::LogDisk>, OpenFault>
     requires frames { IsFrameCount call.now.frames }
     requires claimed { F.is_claimed folder.old }
     ensures goes_on { IfOk result (λ it.
         GoesOnFromFile log.len there.now.copies.items it.engine.state) }
     ensures claimed { F.is_claimed folder.new }
 {
-    let mut remains = find(teller, log, there)?;
-    let database = name_for(teller.rt, &remains.others.manifest)?;
+    let mut remains = find(teller, folder, log, there)?;
+    let database = name_for(folder, &remains.others.manifest)?;
     let sums = prepare(teller, folder, call, there, &mut remains)?;
     let Remains { log, others } = remains;
-    let mut opened = go_on(teller, folder, call, log, (others, database), notes)?;
+    let mut opened = go_on(teller, folder, call, log, (others, database))?;
     opened.sums = sums;
     Ok(opened)
 }
 
 /// Reads what stands in a folder. It writes nothing.
-fn find(teller: &Teller<'_>, log: LogFile, there: &Inventory) -> Result<Remains, OpenFault>
+fn find<F: DatabaseFolder>(
+    teller: &Teller<'_>,
+    folder: &F,
+    log: LogFile<F::Log>,
+    there: &Inventory,
+) -> Result<Remains<F::LogDisk>, OpenFault>
     ensures whole { IfOk result (λ it. length it.log.bytes.items ≡ log.len) }
     ensures front { IfOk result (λ it. IsFrontOf it.log.bytes.items it.log.front) }
     ensures linked { IfOk result (λ it. IsLinked it.log.front.log.records) }
@@ -115,22 +122,27 @@ fn find(teller: &Teller<'_>, log: LogFile, there: &Inventory) -> Result<Remains,
     ensures copies { IfOk result (λ it.
         map (λ file. file.id) it.others.copies.items ≡ there.now.copies.items) }
 {
-    let log = found_log(teller.rt.alloc(), log.file, log.len)?;
-    match find_others(teller, there) {
+    let log = found_in::<F>(teller.alloc, log)?;
+    match find_others(teller, folder, there) {
         Ok(others) => Ok(Remains { log, others }),
         Err(fault) => Err(fault),
     }
 }
 
 /// Reads what stands beside the log.
-pub(crate) fn find_others(teller: &Teller<'_>, there: &Inventory) -> Result<Others, OpenFault>
+pub(crate) fn find_others<F: DatabaseFolder>(
+    teller: &Teller<'_>,
+    folder: &F,
+    there: &Inventory,
+) -> Result<Others, OpenFault>
     ensures { IfOk result (λ it.
         map (λ file. file.id) it.copies.items ≡ there.now.copies.items) }
 {
-    let note = note_there(teller, there)?;
-    let manifest = read_manifest(teller, there.has_manifest)?;
-    let master = read_master(teller, there.has_master)?;
-    let copies = read_copies(teller, &there.copies)?;
+    let alloc = teller.alloc;
+    let note = note_there(teller, folder, there)?;
+    let manifest = read_manifest(alloc, folder, there.has_manifest)?;
+    let master = read_master(folder, there.has_master)?;
+    let copies = read_copies(alloc, folder, &there.copies)?;
     Ok(Others {
         note,
         manifest,
@@ -140,11 +152,15 @@ pub(crate) fn find_others(teller: &Teller<'_>, there: &Inventory) -> Result<Othe
 }
 
 /// The note of the last closing. One that is none is told, and says nothing.
-fn note_there(teller: &Teller<'_>, there: &Inventory) -> Result<Option<ClosedNote>, OpenFault> {
+fn note_there<F: DatabaseFolder>(
+    teller: &Teller<'_>,
+    folder: &F,
+    there: &Inventory,
+) -> Result<Option<ClosedNote>, OpenFault> {
     if !there.has_closed {
         return Ok(None);
     }
-    let note = read_note(teller.rt, teller.folder)?;
+    let note = read_note(folder)?;
     if note.is_none() {
         teller.tell(Place::Closed, &"this is no note of a closing");
     }
@@ -154,12 +170,12 @@ fn note_there(teller: &Teller<'_>, there: &Inventory) -> Result<Option<ClosedNot
 /// Sees that what was found may be opened, and makes the folder ready for a new life. Until nothing
 /// is found to be wrong, nothing is changed there. Answers the sum of the log's bytes that the manifest
 /// names, if it names some.
-fn prepare<F: Folder>(
+fn prepare<F: DatabaseFolder>(
     teller: &Teller<'_>,
     folder: &mut F,
     call: &OpenCall<'_>,
     there: &Inventory,
-    remains: &mut Remains,
+    remains: &mut Remains<F::LogDisk>,
 ) -> Result<Option<Sums>, OpenFault>
     requires lasting { LastsOnFile remains.old.log.front.log remains.old.log.device }
     requires claimed { F.is_claimed folder.old }
@@ -183,9 +199,9 @@ fn prepare<F: Folder>(
     ensures claimed { F.is_claimed folder.new }
 {
     check_count(call, remains.log.front.log().page_count())?;
-    check_volume(teller.rt, call.folder)?;
+    check_volume(folder)?;
     let (loss, sums) = check_loss(teller, call, remains)?;
-    there.clear(teller.rt)?;
+    there.clear(folder)?;
     silence(teller, folder, &loss)?;
     settle(teller, folder, there, remains)?;
     Ok(sums)
@@ -201,10 +217,10 @@ fn check_count(call: &OpenCall<'_>, there: u32) -> Result<(), OpenFault> {
 
 /// Hears all that knows how far the log went once. A loss is a fault, or is told and answered where
 /// what is left is to be opened.
-fn check_loss(
+fn check_loss<D: Disk>(
     teller: &Teller<'_>,
     call: &OpenCall<'_>,
-    remains: &Remains,
+    remains: &Remains<D>,
 ) -> Result<(Loss, Option<Sums>), OpenFault>
     ensures { OnOk result (call.now.salvage ≡ false
         → LacksNothing (end_of remains.now.log.front.log)
@@ -212,8 +228,8 @@ fn check_loss(
         remains.now.others.copies.items remains.now.log.bytes.items) }
 {
     let (found, others) = (&remains.log, &remains.others);
-    let (loss, sums) = loss_of(teller.rt.alloc(), &found.front, &found.bytes, others)?;
-    if loss.claims.is_empty() {
+    let (loss, sums) = loss_of(teller.alloc, &found.front, &found.bytes, others)?;
+    if loss.is_none() {
         return Ok((loss, sums));
     }
     if call.salvage {
@@ -246,7 +262,11 @@ pub(crate) fn loss_of(
 
 /// Gives other names to the files that know of more than the log has, so that the next opening is
 /// not refused for what this one went on without.
-fn silence<F: Folder>(teller: &Teller<'_>, folder: &mut F, loss: &Loss) -> Result<(), OpenFault>
+fn silence<F: DatabaseFolder>(
+    teller: &Teller<'_>,
+    folder: &mut F,
+    loss: &Loss,
+) -> Result<(), OpenFault>
     requires { F.is_claimed folder.old }
     ensures { F.is_claimed folder.new }
 {
@@ -266,11 +286,11 @@ fn silence<F: Folder>(teller: &Teller<'_>, folder: &mut F, loss: &Loss) -> Resul
 
 /// Makes a folder ready for a new life: what stands behind the log is put aside and then cut off,
 /// and the note of the last closing goes before anything is stored.
-fn settle<F: Folder>(
+fn settle<F: DatabaseFolder>(
     teller: &Teller<'_>,
     folder: &mut F,
     there: &Inventory,
-    remains: &mut Remains,
+    remains: &mut Remains<F::LogDisk>,
 ) -> Result<(), OpenFault>
     requires lasting { LastsOnFile remains.old.log.front.log remains.old.log.device }
     requires claimed { F.is_claimed folder.old }
@@ -280,7 +300,7 @@ fn settle<F: Folder>(
     // What stood behind the log has a file of its own,
     ensures kept { OnOk result (remains.old.log.front.cut ≢ None
         → IsWorthKeeping (behind remains.old.log)
-        → IsKept (F.entries folder.old) (behind remains.old.log) (F.entries folder.new)) }
+        → WasKept (behind remains.old.log) (F.entries folder.new)) }
     // and is gone from the log's for certain, before any record is stored there.
     ensures alone { OnOk result (remains.old.log.front.cut ≢ None
         → bytes_of remains.new.log.device ≡ log_bytes remains.new.log.front.log) }
@@ -290,7 +310,7 @@ fn settle<F: Folder>(
     ensures claimed { F.is_claimed folder.new }
 {
     keep_behind(teller, folder, &remains.log)?;
-    forget_closing(teller, folder, there)?;
+    forget_closing(folder, there)?;
     let found = &mut remains.log;
     let (front, note) = (&found.front, remains.others.note);
     if front.cut().is_some() || !is_vouched(note, front.log().end()) {
@@ -300,10 +320,10 @@ fn settle<F: Folder>(
 }
 
 /// Keeps what stands behind the log in a file of its own.
-fn keep_behind<F: Folder>(
+fn keep_behind<F: DatabaseFolder>(
     teller: &Teller<'_>,
     folder: &mut F,
-    found: &FoundLog,
+    found: &FoundLog<FileLog<F::LogDisk>>,
 ) -> Result<(), OpenFault>
     requires { F.is_claimed folder.old }
     ensures kept { OnOk result (found.now.front.cut ≢ None → IsWorthKeeping (behind found.now)
@@ -320,24 +340,21 @@ fn keep_behind<F: Folder>(
 }
 
 /// Removes the note of the last closing, if there is one.
-fn forget_closing<F: Folder>(
-    teller: &Teller<'_>,
-    folder: &mut F,
-    there: &Inventory,
-) -> Result<(), OpenFault>
+fn forget_closing<F: DatabaseFolder>(folder: &mut F, there: &Inventory) -> Result<(), OpenFault>
     requires { F.is_claimed folder.old }
-    ensures same { OnOk result (Changes IsSame (F.entries folder.old) (F.entries folder.new)) }
+    ensures others { OnOk result
+        (Changes (KeepsOthers CLOSED.now) (F.entries folder.old) (F.entries folder.new)) }
     ensures claimed { F.is_claimed folder.new }
 {
     if there.has_closed {
-        remove_note(teller.rt, folder, teller.folder)
+        remove_note(folder)
     } else {
         Ok(())
     }
 }
 
 /// Stores the log again, and has it alone last on its file.
-fn keep_front(found: &mut FoundLog) -> Result<(), OpenFault>
+fn keep_front<D: Disk + Drop>(found: &mut FoundLog<FileLog<D>>) -> Result<(), OpenFault>
     ensures front { found.new.front ≡ found.old.front }
     ensures lasting { OnOk result (LastsOnFile found.new.front.log found.new.device) }
     ensures alone { OnOk result
@@ -361,14 +378,13 @@ pub(crate) fn is_vouched(note: Option<ClosedNote>, end: Lsn) -> bool
 }
 
 /// Goes on from what was found.
-fn go_on<'a, F: Folder>(
+fn go_on<F: DatabaseFolder>(
     teller: &Teller<'_>,
     folder: &mut F,
     call: &OpenCall<'_>,
-    found: FoundLog,
+    found: FoundLog<FileLog<F::LogDisk>>,
     beside: (Others, DatabaseName),
-    notes: &'a Notes,
-) -> Result<Reopened<'a>, OpenFault>
+) -> Result<Reopened<F::Volume, F::LogDisk>, OpenFault>
     requires frames { IsFrameCount call.now.frames }
     requires lasting { LastsOnFile found.front.log found.device }
     requires claimed { F.is_claimed folder.old }
@@ -380,11 +396,11 @@ fn go_on<'a, F: Folder>(
     let (others, database) = beside;
     let facts = Facts::of(found.front.log(), &others.master);
     let end = found.front.log().end();
-    let (mut restarted, device) = restart_on(teller.rt.alloc(), found)?;
+    let (mut restarted, device) = restart_on(teller.alloc, found)?;
     let first = facts.first_line(&restarted);
     let copies = others.copies;
-    let (store, unread) = equip(teller, folder, call, &mut restarted, end, copies, notes)?;
-    let engine = restarted.into_engine(teller.rt.alloc(), call.frames, store, device)?;
+    let (store, unread) = equip(teller, folder, &mut restarted, end, copies)?;
+    let engine = restarted.into_engine(teller.alloc, call.frames, store, device)?;
     Ok(Reopened {
         engine,
         first,
@@ -433,7 +449,10 @@ impl Facts {
 }
 
 /// Takes back what was open in a log that was found.
-fn restart_on(alloc: Global, found: FoundLog) -> Result<(Restarted, FileLog), OpenFault>
+fn restart_on<D: Disk + Drop>(
+    alloc: Global,
+    found: FoundLog<FileLog<D>>,
+) -> Result<(Restarted, FileLog<D>), OpenFault>
     requires lasting { LastsOnFile found.front.log found.device }
     ensures log { IfOk result (λ it. it.0.log ≡ undone_log found.front.log) }
     ensures copies { IfOk result (λ it. it.0.copies ≡ []) }
@@ -454,26 +473,24 @@ fn restart_on(alloc: Global, found: FoundLog) -> Result<(Restarted, FileLog), Op
 
 /// Takes up the copies that are sound and know of nothing past the end that the log had, and makes
 /// the volume. Answers the ids of copies that could not be read, too.
-fn equip<'a, F: Folder>(
+fn equip<F: DatabaseFolder>(
     teller: &Teller<'_>,
     folder: &mut F,
-    call: &OpenCall<'_>,
     restarted: &mut Restarted,
     end: Lsn,
     copies: Vec<CopyFile>,
-    notes: &'a Notes,
-) -> Result<(ToldStore<'a>, Vec<u32>), OpenFault>
+) -> Result<(F::Volume, Vec<u32>), OpenFault>
     requires counted { IsPageCount (page_count restarted.old.log) }
     requires claimed { F.is_claimed folder.old }
     ensures log { restarted.new.log ≡ restarted.old.log }
     ensures taken { OnOk result (TakesUp end restarted.old copies.items restarted.new) }
     ensures unread { IfOk result (λ it. it.1.items ≡ ids_unread copies.items) }
-    ensures store { IfOk result (λ it. it.0.store.pages ≡ restarted.new.pages) }
+    ensures store { IfOk result (λ it. F.Volume.stored it.0 ≡ restarted.new.pages) }
     ensures claimed { F.is_claimed folder.new }
 {
     let unread = take_up(teller, restarted, end, copies)?;
-    let pages = store_of(teller.rt.alloc(), restarted.pages())?;
-    match volume_of(teller.rt, folder, call.folder, pages, notes) {
+    let pages = store_of(teller.alloc, restarted.pages())?;
+    match volume_of(folder, pages) {
         Ok(store) => Ok((store, unread)),
         Err(fault) => Err(fault),
     }

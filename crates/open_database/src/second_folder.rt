@@ -7,46 +7,48 @@ ghost use Rattle.saved_files.specs.Saved.{name_of};
 ghost use Rattle.open_database.specs.Kept.{Names};
 ghost use Rattle.open_database.specs.MadeFiles.{HasFile};
 
-use crate::claims_soon::ClaimsSoon;
+use crate::database_folder::DatabaseFolder;
 use crate::engine_files::{place, sum_of};
 use crate::fault::OpenFault;
 use crate::found_manifest::read_manifest;
 use crate::kept_manifest::{note_file, without_lost};
 use crate::manifest_file::put_text;
+use crate::names::MANIFEST;
 use crate::place::Place;
 use crate::told::Teller;
 use crate::whole_file::{Bytes, read_whole};
 use copy_vault::CopyId;
 use manifest::{DatabaseName, Extent, FileSum, Manifest};
 use saved_files::{Folder, PutFault, SavedName};
+use std::alloc::Global;
 
 /// Puts the log, the master record and these copies of a database into a second folder, each whole
 /// and synced, or not there, and then a manifest that names them. A copy that is there already stays.
 /// What is there of another database is not touched: the manifest there has to be of this one, the log
 /// there has to be the beginning of this one's, and each copy the same.
-pub(crate) fn put_beside<F: ClaimsSoon>(
-    files: &HostRuntime,
-    from: &str,
+pub(crate) fn put_beside<O: DatabaseFolder, F: DatabaseFolder>(
+    teller: &Teller<'_>,
+    from: &O,
     folder: &mut F,
-    into: &str,
     copies: &[CopyId],
     database: DatabaseName,
 ) -> Result<(), OpenFault> {
     folder.claim_or_wait()?;
-    let mut manifest = manifest_beside(files, into, database)?;
-    let log = found(files, from, SavedName::Log)?;
-    let older = at(files, into, SavedName::Log)?;
+    let alloc = teller.alloc;
+    let mut manifest = manifest_beside(teller, folder, database)?;
+    let log = found(alloc, from, SavedName::Log)?;
+    let older = at(alloc, folder, SavedName::Log)?;
     check_beginning(older, &log)?;
     for id in copies {
-        check_same(files, from, into, *id)?;
+        check_same(alloc, from, folder, *id)?;
     }
-    put(files, folder, SavedName::Log, &log, &mut manifest)?;
+    put(alloc, folder, SavedName::Log, &log, &mut manifest)?;
     for id in copies {
-        put_missing(files, (from, into), folder, *id, &mut manifest)?;
+        put_missing(alloc, from, folder, *id, &mut manifest)?;
     }
-    let master = found(files, from, SavedName::Master)?;
-    put(files, folder, SavedName::Master, &master, &mut manifest)?;
-    match put_text(folder, files.alloc(), &manifest) {
+    let master = found(alloc, from, SavedName::Master)?;
+    put(alloc, folder, SavedName::Master, &master, &mut manifest)?;
+    match put_text(folder, alloc, &manifest) {
         Ok(()) => Ok(()),
         Err(why) => Err(OpenFault::Unput(Place::Manifest, why)),
     }
@@ -54,19 +56,17 @@ pub(crate) fn put_beside<F: ClaimsSoon>(
 
 /// The manifest of a second folder, which has to be of this database, without the lines of files that
 /// are gone; or a new one.
-fn manifest_beside(
-    files: &HostRuntime,
-    into: &str,
+fn manifest_beside<F: DatabaseFolder>(
+    teller: &Teller<'_>,
+    folder: &F,
     database: DatabaseName,
 ) -> Result<Manifest, OpenFault> {
-    let beside = Teller {
-        rt: files,
-        folder: into,
-    };
-    match read_manifest(&beside, true)? {
+    let alloc = teller.alloc;
+    let is_there = folder.has(MANIFEST).map_err(OpenFault::of_folder)?;
+    match read_manifest(alloc, folder, is_there)? {
         Some(it) if it.database() != database => Err(OpenFault::OtherDatabase(Place::Manifest)),
-        Some(it) => Ok(without_lost(&beside, it, None)?.0),
-        None => Ok(Manifest::new(files.alloc(), database)),
+        Some(it) => Ok(without_lost(teller, folder, it, None)?.0),
+        None => Ok(Manifest::new(alloc, database)),
     }
 }
 
@@ -80,15 +80,22 @@ fn place_of(name: &SavedName) -> Place {
 }
 
 /// The bytes of a file, if it is there.
-fn at(files: &HostRuntime, folder: &str, name: SavedName) -> Result<Option<Vec<u8>>, OpenFault> {
-    let alloc = files.alloc();
+fn at<F: DatabaseFolder>(
+    alloc: Global,
+    folder: &F,
+    name: SavedName,
+) -> Result<Option<Vec<u8>>, OpenFault> {
     let text = format!(in alloc; "{name}")?;
-    read_whole(files, folder, place_of(&name), text.as_str())
+    read_whole(folder, place_of(&name), text.as_str())
 }
 
 /// The bytes of a file that has to be there.
-fn found(files: &HostRuntime, folder: &str, name: SavedName) -> Result<Vec<u8>, OpenFault> {
-    match at(files, folder, name)? {
+fn found<F: DatabaseFolder>(
+    alloc: Global,
+    folder: &F,
+    name: SavedName,
+) -> Result<Vec<u8>, OpenFault> {
+    match at(alloc, folder, name)? {
         Some(bytes) => Ok(bytes),
         None => Err(OpenFault::LogLost(place_of(&name))),
     }
@@ -103,10 +110,15 @@ fn check_beginning(older: Option<Vec<u8>>, log: &[u8]) -> Result<(), OpenFault> 
 }
 
 /// Sees that a copy is the same in both folders, if both have it.
-fn check_same(files: &HostRuntime, from: &str, into: &str, id: CopyId) -> Result<(), OpenFault> {
+fn check_same<O: DatabaseFolder, F: DatabaseFolder>(
+    alloc: Global,
+    from: &O,
+    folder: &F,
+    id: CopyId,
+) -> Result<(), OpenFault> {
     let name = SavedName::Copy(id);
-    match at(files, into, name)? {
-        Some(there) if there != found(files, from, name)? => {
+    match at(alloc, folder, name)? {
+        Some(there) if there != found(alloc, from, name)? => {
             Err(OpenFault::OtherDatabase(Place::Copy(id)))
         }
         _ => Ok(()),
@@ -114,9 +126,9 @@ fn check_same(files: &HostRuntime, from: &str, into: &str, id: CopyId) -> Result
 }
 
 /// Puts a copy into the second folder, if it is not there, and notes it.
-fn put_missing<F: Folder>(
-    files: &HostRuntime,
-    names: (&str, &str),
+fn put_missing<O: DatabaseFolder, F: DatabaseFolder>(
+    alloc: Global,
+    from: &O,
     folder: &mut F,
     id: CopyId,
     manifest: &mut Manifest,
@@ -124,17 +136,16 @@ fn put_missing<F: Folder>(
     requires { F.is_claimed folder.old }
     ensures { F.is_claimed folder.new }
 {
-    let (from, into) = names;
     let name = SavedName::Copy(id);
-    match at(files, into, name)? {
-        Some(there) => note(files, name, &there, manifest),
-        None => put(files, folder, name, &found(files, from, name)?, manifest),
+    match at(alloc, folder, name)? {
+        Some(there) => note(alloc, name, &there, manifest),
+        None => put(alloc, folder, name, &found(alloc, from, name)?, manifest),
     }
 }
 
 /// Puts these bytes into the place of a file, has its name last, and notes them.
 fn put<F: Folder>(
-    files: &HostRuntime,
+    alloc: Global,
     folder: &mut F,
     name: SavedName,
     bytes: &[u8],
@@ -149,8 +160,8 @@ fn put<F: Folder>(
     ensures stored { OnOk result (F.is_stored folder.new) }
     ensures claimed { F.is_claimed folder.new }
 {
-    match place(folder, files.alloc(), name, &mut Bytes { bytes }) {
-        Ok(()) => note(files, name, bytes, manifest),
+    match place(folder, alloc, name, &mut Bytes { bytes }) {
+        Ok(()) => note(alloc, name, bytes, manifest),
         Err(PutFault::Unmade(why) | PutFault::Unwritten(why) | PutFault::Unplaced(why)) => {
             Err(OpenFault::Unput(place_of(&name), why))
         }
@@ -159,14 +170,14 @@ fn put<F: Folder>(
 
 /// Notes that a file has these bytes.
 fn note(
-    files: &HostRuntime,
+    alloc: Global,
     name: SavedName,
     bytes: &[u8],
     manifest: &mut Manifest,
 ) -> Result<(), OpenFault>
     ensures { OnOk result (Names manifest.new.entries (name_of name) (λ it. it ≡ bytes.now)) }
 {
-    let text = format!(in files.alloc(); "{name}")?;
+    let text = format!(in alloc; "{name}")?;
     let extent = match name {
         SavedName::Log => Extent::First,
         _ => Extent::Whole,

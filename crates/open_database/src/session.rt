@@ -9,6 +9,7 @@ ghost use Rattle.open_database.specs.Session.{LeavesTaken, Says, Serves, Takes, 
 
 use crate::bad_call::{BadCall, LineTrouble};
 use crate::call_kind::CallKind;
+use crate::database_folder::DatabaseFolder;
 use crate::kept_manifest::KeptManifest;
 use crate::line_reader::{LineReader, NextLine};
 use crate::order::{Order, said_in, said_unended};
@@ -20,10 +21,12 @@ use crate::tally::Tally;
 use crate::told::Teller;
 use crate::unplaced_point::UnplacedPoint;
 use aries_core::{Engine, Event, Refusal};
+use file_devices::FileLog;
 use log_store::LogDevice;
 use page_core::write_out;
 use page_store::PageStore;
 use saved_files::Folder;
+use sqlite_disk::Disk;
 use std::alloc::{AllocError, Global};
 use std::io;
 use std::io::{Read, Write};
@@ -51,7 +54,7 @@ pub(crate) trait TellsWhy {
     fn why(&self) -> Option<io::Error>;
 }
 
-impl TellsWhy for file_devices::FileLog {
+impl<D: Disk + Drop> TellsWhy for FileLog<D> {
     fn why(&self) -> Option<io::Error> {
         self.error()
     }
@@ -108,7 +111,7 @@ fn write_bad<W: Write>(
     }
 }
 
-impl<F: Folder, S: PageStore, D: LogDevice + TellsWhy> Session<'_, F, S, D> {
+impl<F: DatabaseFolder, S: PageStore, D: LogDevice + TellsWhy> Session<'_, F, S, D> {
     /// Takes the lines of the input one after another, to its end, or to a `quit`. Each is answered
     /// by one line or more, but for those that say nothing. The manifest names a file that a line put
     /// in place once that line is answered.
@@ -187,7 +190,8 @@ impl<F: Folder, S: PageStore, D: LogDevice + TellsWhy> Session<'_, F, S, D> {
         ensures folder { self.new.folder ≡ self.old.folder }
     {
         self.tally.note(number, true);
-        let _ = eprintln!(self.teller.rt; "imgcopy: line {number}: {bad}");
+        self.teller
+            .line(&format_args!("imgcopy: line {number}: {bad}"));
         write_bad(self.alloc, number, bad, writer)
     }
 

@@ -2,9 +2,9 @@
 
 use crate::evidence::Loss;
 use crate::fault::OpenFault;
-use crate::found_manifest::RANDOM;
 use crate::place::Place;
 use crate::session::ServeFault;
+use crate::system_database::RANDOM;
 use engine_restart::{FoundFault, RestartFault};
 use event_script::ReplyLine;
 use log_front::{Cut, CutReason};
@@ -13,6 +13,7 @@ use log_store::LogReadFault;
 use manifest::ManifestFault;
 use page_core::FaultName;
 use saved_files::FileFault;
+use std::alloc::Global;
 use std::fmt::Display;
 use std::io;
 use system_files::{Escaped, Notes};
@@ -20,8 +21,10 @@ use system_files::{Escaped, Notes};
 /// Tells on standard error what befalls a folder.
 #[derive(Clone, Copy)]
 pub(crate) struct Teller<'a> {
-    pub rt: &'a HostRuntime,
-    pub folder: &'a str,
+    /// Whose standard error it is. Without it nothing is told.
+    rt: Option<&'a HostRuntime>,
+    pub alloc: Global,
+    folder: &'a str,
 }
 
 /// Why the bytes behind a log are left out.
@@ -34,11 +37,36 @@ fn reason_of(cut: &Cut) -> &'static str {
     }
 }
 
-impl Teller<'_> {
+impl<'a> Teller<'a> {
+    /// Tells of this folder.
+    pub fn new(rt: &'a HostRuntime, folder: &'a str) -> Teller<'a> {
+        Teller {
+            rt: Some(rt),
+            alloc: rt.alloc(),
+            folder,
+        }
+    }
+
+    /// Tells nothing.
+    pub fn silent(alloc: Global) -> Teller<'a> {
+        Teller {
+            rt: None,
+            alloc,
+            folder: "",
+        }
+    }
+
+    /// Writes this line.
+    pub fn line(&self, text: &impl Display) {
+        if let Some(rt) = self.rt {
+            let _ = rt.eprintln(text);
+        }
+    }
+
     /// Tells this of a place in the folder.
     pub fn tell(&self, place: Place, why: &impl Display) {
         let folder = Escaped(self.folder);
-        let _ = eprintln!(self.rt; "imgcopy: {folder}{place}: {why}");
+        self.line(&format_args!("imgcopy: {folder}{place}: {why}"));
     }
 
     /// Tells that the bytes behind a log are left out, which are so many.
@@ -92,20 +120,20 @@ impl Teller<'_> {
     pub fn tell_ended(&self, fault: &ServeFault, input: &Notes, output: &Notes) {
         let (stream, error) = match fault {
             ServeFault::OutOfMemory => {
-                let _ = self.rt.eprintln(&FaultName::OutOfMemory);
+                self.line(&FaultName::OutOfMemory);
                 return;
             }
             ServeFault::ReadFault => {
-                let _ = eprintln!(self.rt; "imgcopy: input");
+                self.line(&"imgcopy: input");
                 ("standard input", input.error())
             }
             ServeFault::WriteFault(done) => {
-                let _ = eprintln!(self.rt; "{} {done}", FaultName::WriteFault);
+                self.line(&format_args!("{} {done}", FaultName::WriteFault));
                 ("standard output", output.error())
             }
         };
         if let Some(error) = error {
-            let _ = eprintln!(self.rt; "imgcopy: {stream}: {error}");
+            self.line(&format_args!("imgcopy: {stream}: {error}"));
         }
     }
 
@@ -113,10 +141,10 @@ impl Teller<'_> {
     /// says where and why. The notes are those of the folder.
     pub fn tell_fault(&self, fault: &OpenFault, notes: &Notes) {
         if let Some(name) = fault.name() {
-            let _ = match name {
-                FaultName::WriteFault => eprintln!(self.rt; "{name} 0"),
-                _ => eprintln!(self.rt; "{name}"),
-            };
+            match name {
+                FaultName::WriteFault => self.line(&format_args!("{name} 0")),
+                _ => self.line(&name),
+            }
         }
         match fault {
             OpenFault::Unclaimed(why) => self.tell(Place::Folder, why),
@@ -211,7 +239,7 @@ impl Teller<'_> {
             Some(cut) => cut.fault(),
             None => LogReadFault::BadChain(loss.end),
         };
-        let _ = self.rt.eprintln(&fault);
+        self.line(&fault);
         self.tell_loss(loss);
         self.tell(
             Place::Folder,
@@ -228,13 +256,13 @@ impl Teller<'_> {
 
     /// Tells that no name of a database was drawn.
     fn tell_unnamed(&self, code: Option<i32>) {
-        let _ = match code {
+        match code {
             Some(code) => {
                 let error = io::Error::from_raw_os_error(code);
-                eprintln!(self.rt; "imgcopy: {RANDOM}: {error}")
+                self.line(&format_args!("imgcopy: {RANDOM}: {error}"));
             }
-            None => eprintln!(self.rt; "imgcopy: {RANDOM}: it gives too few bytes"),
-        };
+            None => self.line(&format_args!("imgcopy: {RANDOM}: it gives too few bytes")),
+        }
     }
 
     fn tell_count(&self, there: u32, told: u32) {

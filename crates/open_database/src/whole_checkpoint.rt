@@ -8,6 +8,7 @@ ghost use Rattle.open_database.specs.declared.word.Word.TheVariants as word;
 ghost use Rattle.open_database.specs.declared.word_said.WordSaid.TheVariants as word_said;
 ghost use Rattle.engine_calls.specs.declared.event.Event.TheVariants as event;
 
+use crate::database_folder::DatabaseFolder;
 use crate::page_writes::write_pages;
 use crate::said::Said;
 use crate::session::{Session, TellsWhy};
@@ -16,9 +17,8 @@ use aries_core::{Engine, Gathered, Refusal};
 use log_store::LogDevice;
 use page_core::MAX_PAGES;
 use page_store::PageStore;
-use saved_files::Folder;
 
-impl<F: Folder, S: PageStore, D: LogDevice + TellsWhy> Session<'_, F, S, D> {
+impl<F: DatabaseFolder, S: PageStore, D: LogDevice + TellsWhy> Session<'_, F, S, D> {
     /// Writes each dirty page, so that redo begins late, and makes a whole checkpoint, whose master
     /// record is in place.
     pub(crate) fn checkpoint(&mut self) -> Said

@@ -8,6 +8,7 @@ ghost use Rattle.open_database.specs.WordCopies.{BeginsAndFills, FillsCopy, Seal
 ghost use Rattle.open_database.specs.Words.{MakesWord, Runs, one_line};
 ghost use Rattle.open_database.specs.declared.word.Word.TheVariants as word;
 
+use crate::database_folder::DatabaseFolder;
 use crate::made_files::copied_id;
 use crate::page_takes::take_or_drop;
 use crate::said::Said;
@@ -20,9 +21,8 @@ use log_records::RECORD_BYTES;
 use log_store::LogDevice;
 use page_core::PageNo;
 use page_store::PageStore;
-use saved_files::Folder;
 
-impl<F: Folder, S: PageStore, D: LogDevice + TellsWhy> Session<'_, F, S, D> {
+impl<F: DatabaseFolder, S: PageStore, D: LogDevice + TellsWhy> Session<'_, F, S, D> {
     /// Makes a whole copy, a full one or one on this parent, behind a checkpoint that is new. Where a
     /// call is refused, none is made behind it but the one that drops the copy.
     pub(crate) fn copy(&mut self, parent: Option<u32>) -> WordSaid

@@ -1,36 +1,60 @@
-//! A file that is read whole, and its bytes as those of another.
+//! Files that are read by their names, and bytes as those of another file.
 
 ghost use Rattle.std.specs.Prelude.{◌≡◌};
 ghost use Rattle.std.specs.Io.KnownBytes.{Appends};
 ghost use Rattle.saved_files.specs.FileFault.{Leaves};
 
+use crate::database_folder::{DatabaseFolder, Standing};
 use crate::fault::OpenFault;
 use crate::place::Place;
 use page_core::write_out;
 use saved_files::{FileFault, Source};
 use std::alloc::Global;
-use std::fs;
-use std::io::{ErrorKind, Write};
-use std::path::Path;
+use std::io;
+use std::io::{Read, Write};
 
 /// The bytes of a file of a folder, if it is there.
-pub(crate) fn read_whole(
-    files: &HostRuntime,
-    folder: &str,
+pub(crate) fn read_whole<F: DatabaseFolder>(
+    folder: &F,
     place: Place,
     name: &str,
 ) -> Result<Option<Vec<u8>>, OpenFault> {
-    let path = Path::new(folder).join(files.alloc(), name)?;
-    match fs::metadata(files, path.as_path()) {
-        Ok(there) if there.is_file() => {}
-        Ok(_) => return Err(OpenFault::NoFile(place)),
-        Err(error) if error.kind() == ErrorKind::NotFound => return Ok(None),
-        Err(error) => return Err(OpenFault::of(place, &error)),
-    }
-    match fs::read(files, path.as_path()) {
-        Ok(bytes) => Ok(Some(bytes)),
+    match folder.whole(name) {
+        Ok(Standing::File(bytes)) => Ok(Some(bytes)),
+        Ok(Standing::NoFile) => Err(OpenFault::NoFile(place)),
+        Ok(Standing::Nothing) => Ok(None),
         Err(error) => Err(OpenFault::of(place, &error)),
     }
+}
+
+/// Reads the first bytes of a file of a folder, as many as the buffer has room for, and says how
+/// many these are.
+pub(crate) fn read_first<F: DatabaseFolder>(
+    folder: &F,
+    name: &str,
+    bytes: &mut [u8],
+) -> io::Result<Standing<usize>> {
+    match folder.open_file(name)? {
+        Standing::File(mut file) => Ok(Standing::File(fill(&mut file, bytes)?)),
+        Standing::NoFile => Ok(Standing::NoFile),
+        Standing::Nothing => Ok(Standing::Nothing),
+    }
+}
+
+/// Fills the buffer as far as the reader has bytes, and says how far that is.
+fn fill<R: Read>(file: &mut R, bytes: &mut [u8]) -> io::Result<usize> {
+    let mut len = 0usize;
+    for _ in 0..=bytes.len() {
+        let Some(rest) = bytes.get_mut(len..) else {
+            break;
+        };
+        let count = file.read(rest)?;
+        if count == 0 {
+            break;
+        }
+        len = len.saturating_add(count);
+    }
+    Ok(len)
 }
 
 /// Bytes that a file is made of.

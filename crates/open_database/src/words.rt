@@ -6,6 +6,7 @@ ghost use Rattle.open_database.specs.Session.{LeavesLine, LeavesWord, TakesWord}
 ghost use Rattle.open_database.specs.Words.{MakesWord, one_line, text_of};
 ghost use Rattle.open_database.specs.declared.word.Word.TheVariants as word;
 
+use crate::database_folder::DatabaseFolder;
 use crate::help::HELP;
 use crate::page_writes::write_pages;
 use crate::said::Said;
@@ -14,10 +15,9 @@ use crate::word::Word;
 use crate::word_said::{WordSaid, write_text, write_word};
 use log_store::LogDevice;
 use page_store::PageStore;
-use saved_files::Folder;
 use std::io::Write;
 
-impl<F: Folder, S: PageStore, D: LogDevice + TellsWhy> Session<'_, F, S, D> {
+impl<F: DatabaseFolder, S: PageStore, D: LogDevice + TellsWhy> Session<'_, F, S, D> {
     /// Does what a word says, and writes its lines.
     pub(crate) fn take_word<W: Write>(
         &mut self,

@@ -5,23 +5,23 @@ use Rattle.open_database.specs.Session.{ServesLines}
 use Rattle.open_database.proofs.open.live.Goals as goal
 use Rattle.open_database.proofs.open.live.Goals.{After-close}
 
-served : (c : After-close) → ServesLines c.args.session.now.engine.state c.serve_all-served.new.session.engine.state
-served c =
-    subst (λ engine. ServesLines engine.state c.serve_all-served.new.session.engine.state) (c.keep_placed.ensures.engine ∙ c.put_point.ensures)
-    c.serve_all-served.ensures
+served : (g : _) (c : After-close g) → ServesLines c.args.session.now.engine.state c.serve_all-served.new.session.engine.state
+served g c =
+    subst (λ engine. ServesLines engine.state c.serve_all-served.new.session.engine.state) (c.keep_placed.ensures.engine ∙ c.put_point.ensures.engine)
+    c.serve_all-served.ensures.served
 
-closed : (c : After-close)
+closed : (g : _) (c : After-close g)
     → RunsBy IsOfClosing IsAnyReply c.serve_all-served.new.session.engine.state c.close.new.self.engine.state
-closed c =
-    subst (λ engine. RunsBy IsOfClosing IsAnyReply engine.state c.close.new.self.engine.state) c.note_served.ensures
+closed g c =
+    subst (λ engine. RunsBy IsOfClosing IsAnyReply engine.state c.close.new.self.engine.state) c.note_served.ensures.engine
     c.close.ensures.ran
 
 pub returns-clause-lives : goal.returns-clause-lives
-returns-clause-lives c =
+returns-clause-lives g c =
     by_lines_lives c.args.session.now.engine.state c.serve_all-served.new.session.engine.state
-    c.close.new.self.engine.state (served c) (closed c)
+    c.close.new.self.engine.state (served g c) (closed g c)
 
 pub returns-clause-lines : goal.returns-clause-lines
-returns-clause-lines c =
+returns-clause-lines g c =
     by_lines c.args.session.now.engine.state c.serve_all-served.new.session.engine.state
-    c.close.new.self.engine.state (served c) (closed c)
+    c.close.new.self.engine.state (served g c) (closed g c)

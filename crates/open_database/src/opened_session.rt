@@ -1,12 +1,11 @@
-//! An open database whose log and volume are files of a folder.
+//! A database that was just opened, as a session.
 
 ghost use Rattle.std.specs.Prelude.{ℕ, ◌≡◌, IfOk, IfSome, List, Option};
 ghost use Rattle.buffer_pool.specs.Pool.{IsFrameCount};
 ghost use Rattle.log_records.specs.Log.{IsPageCount};
 ghost use Rattle.open_database.specs.Opened.{Begins};
-ghost use Rattle.open_database.specs.declared.log_file.LogFile.{LogFile};
 
-use crate::begin::FileEngine;
+use crate::database_folder::DatabaseFolder;
 use crate::fault::OpenFault;
 use crate::first_line::FirstLine;
 use crate::kept_manifest::KeptManifest;
@@ -17,18 +16,18 @@ use crate::restarted::Reopened;
 use crate::session::Session;
 use crate::tally::Tally;
 use crate::told::Teller;
-use crate::told_store::ToldStore;
+use aries_core::Engine;
 use file_devices::FileLog;
 use fuzzy_ckpt::Point;
-use system_files::{Notes, SystemFolder};
-
-/// An open database, whose log and volume are files.
-pub(crate) type FileSession<'a> = Session<'a, SystemFolder<'a>, ToldStore<'a>, FileLog>;
+use log_store::LogDevice;
+use page_store::PageStore;
+use saved_files::Folder;
+use system_files::Notes;
 
 /// A database that was just opened.
 #[derive(Drop)]
-pub(crate) struct OpenedSession<'a> {
-    pub session: FileSession<'a>,
+pub(crate) struct OpenedSession<'a, F: Folder, S: PageStore, D: LogDevice> {
+    pub session: Session<'a, F, S, D>,
     pub kept: KeptManifest,
     pub first: FirstLine,
     /// The last checkpoint of the log, if its master record is not in place.
@@ -36,18 +35,19 @@ pub(crate) struct OpenedSession<'a> {
 }
 
 /// Claims a folder and opens the database in it, with the manifest that it keeps.
-pub(crate) fn session_in<'a>(
+pub(crate) fn session_in<'a, F: DatabaseFolder + Drop>(
     teller: &Teller<'a>,
-    mut folder: SystemFolder<'a>,
+    mut folder: F,
     notes: (&'a Notes, &'a Notes),
     call: &OpenCall<'_>,
-) -> Result<OpenedSession<'a>, OpenFault>
+) -> Result<OpenedSession<'a, F, F::Volume, FileLog<F::LogDisk>>, OpenFault>
     requires pages { IfSome call.now.pages IsPageCount }
     requires frames { IsFrameCount call.now.frames }
-    ensures { IfOk result (λ it. (log : Option LogFile) × (ids : List ℕ)
+    ensures begins { IfOk result (λ it. (log : Option ℕ) × (ids : List ℕ)
         × Begins log ids call.now.pages call.now.frames it.session.engine.state) }
+    ensures claimed { IfOk result (λ it. F.is_claimed it.session.folder) }
 {
-    let pending = Pending::new(teller.rt.alloc())?;
+    let pending = Pending::new(teller.alloc)?;
     let Reopened {
         engine,
         first,
@@ -57,9 +57,9 @@ pub(crate) fn session_in<'a>(
         database,
         manifest,
         sums,
-    } = opened(teller, &mut folder, call, notes.1)?;
+    } = opened(teller, &mut folder, call)?;
     let (pages, copies) = (engine.log().header_pages(), engine.copies());
-    let kept = KeptManifest::begin(teller, database, (manifest, sums), pages, copies)?;
+    let kept = KeptManifest::begin(teller, &folder, database, (manifest, sums), pages, copies)?;
     let mut session = session_on(teller, folder, notes, engine, pending);
     session.is_master_wrong = is_master_wrong;
     session.unread = unread;
@@ -72,16 +72,17 @@ pub(crate) fn session_in<'a>(
 }
 
 /// An open database in whose folder all that was made is in place.
-pub(crate) fn session_on<'a>(
+pub(crate) fn session_on<'a, F: Folder, S: PageStore, D: LogDevice>(
     teller: &Teller<'a>,
-    folder: SystemFolder<'a>,
+    folder: F,
     notes: (&'a Notes, &'a Notes),
-    engine: FileEngine<'a>,
+    engine: Engine<S, D>,
     pending: Pending,
-) -> FileSession<'a>
-    ensures { result.engine ≡ engine.entry }
+) -> Session<'a, F, S, D>
+    ensures engine { result.engine ≡ engine }
+    ensures folder { result.folder ≡ folder }
 {
-    let alloc = teller.rt.alloc();
+    let alloc = teller.alloc;
     Session {
         alloc,
         engine,

@@ -3,10 +3,10 @@ use Rattle.std.proofs.lemmas.List.{length-take}
 use Rattle.log_records.specs.Log.{Log, log_bytes, lsn_of}
 use Rattle.file_devices.specs.FileLog.{bytes_of}
 use Rattle.engine_restart.proofs.LogFiles.{both_ok, front_there, has_alone}
-use Rattle.engine_restart.proofs.log_file.FoundLog.keep_front.Goals as goal
+use Rattle.engine_restart.proofs.log_file.FoundLog+FileLog+D.keep_front.Goals as goal
 
 pub slice_bounds-keep-end : goal.slice_bounds-keep-end
-slice_bounds-keep-end c =
+slice_bounds-keep-end g c =
     let found = c.args.self.now in
     let there : lsn_of (length found.front.log.records) ≤ length found.bytes.items =
     front_there found.front.log found.bytes.items found.spelled in
@@ -19,7 +19,7 @@ slice_bounds-keep-end c =
     )
 
 pub returns-clause-lasting : goal.returns-clause-lasting
-returns-clause-lasting c =
+returns-clause-lasting g c =
     let found = c.args.self.now in
     let bytes = c.deref.result.now in
     let front = take c.end-2.inside.0 bytes in

@@ -1,0 +1,261 @@
+//! The folder of a database that is one of the system.
+
+ghost use Rattle.std.specs.Prelude.{◌≡◌, [], IfOk, None, length};
+ghost use Rattle.file_devices.specs.FileLog.{bytes_of};
+
+use crate::database_folder::{DatabaseFolder, LogFault, Standing, VolumeFault};
+use crate::file_limit::low_limit;
+use crate::log_file::LogFile;
+use crate::names::{LOG, VOLUME};
+use crate::system_log::{made_log, opened_log};
+use crate::system_volume::volume_file;
+use crate::told_store::ToldStore;
+use file_devices::{FileDisk, FileLog, FileStore};
+use page_store::MemStore;
+use saved_files::Folder;
+use std::alloc::{AllocError, Global};
+use std::fs::File;
+use std::io::{ErrorKind, Printer, Read};
+use std::os::unix::fs::FileExt;
+use std::path::{Path, PathBuf};
+use std::{fs, io};
+use system_files::{ClaimFault, Noted, Notes, Patient, SystemFolder, WrittenFile};
+
+/// Where the system gives random bytes.
+pub(crate) const RANDOM: &str = "/dev/urandom";
+
+/// The folder of a database that is one of the system.
+#[derive(Drop)]
+pub(crate) struct SystemDatabase<'a> {
+    folder: SystemFolder<'a>,
+    rt: &'a HostRuntime,
+    name: &'a str,
+    store_notes: &'a Notes,
+}
+
+impl<'a> SystemDatabase<'a> {
+    /// The folder of this name. Why its calls failed is noted in the first notes, and why those of
+    /// its volume did in the others.
+    pub fn new(
+        rt: &'a HostRuntime,
+        name: &'a str,
+        notes: (&'a Notes, &'a Notes),
+    ) -> SystemDatabase<'a> {
+        SystemDatabase {
+            folder: SystemFolder::new(rt, rt.alloc(), name, notes.0),
+            rt,
+            name,
+            store_notes: notes.1,
+        }
+    }
+
+    /// Where the file of this name stands.
+    fn place_of(&self, name: &str) -> io::Result<PathBuf> {
+        Ok(Path::new(self.name).join(self.rt.alloc(), name)?)
+    }
+
+    /// What stands at this place. A link is followed.
+    fn standing(&self, place: &PathBuf) -> io::Result<Standing<()>> {
+        match fs::metadata(self.rt, place.as_path()) {
+            Ok(there) if there.is_file() => Ok(Standing::File(())),
+            Ok(_) => Ok(Standing::NoFile),
+            Err(error) if error.kind() == ErrorKind::NotFound => Ok(Standing::Nothing),
+            Err(error) => Err(error),
+        }
+    }
+}
+
+impl<'a> Folder for SystemDatabase<'a> {
+    type File = Noted<'a, File>;
+
+    type Written = WrittenFile;
+
+    ghost entries = { λ _. None };
+
+    ghost is_claimed = { λ _. Unit {0} };
+
+    ghost is_stored = { λ _. Unit {0} };
+
+    ghost given_up = { λ _. None };
+
+    ghost holds = { λ _. None };
+
+    fn claim(&mut self) -> io::Result<()> {
+        self.folder.claim()
+    }
+
+    fn make(&mut self, name: &str) -> io::Result<Noted<'a, File>> {
+        self.folder.make(name)
+    }
+
+    fn finish(file: Noted<'a, File>) -> WrittenFile {
+        SystemFolder::finish(file)
+    }
+
+    fn sync(&mut self, name: &str, file: &WrittenFile) -> io::Result<()> {
+        self.folder.sync(name, file)
+    }
+
+    fn rename(&mut self, from: &str, to: &str) -> io::Result<()> {
+        self.folder.rename(from, to)
+    }
+
+    fn give_up(&mut self, name: &str, file: WrittenFile) -> io::Result<()> {
+        self.folder.give_up(name, file)
+    }
+
+    fn sync_names(&mut self) -> io::Result<()> {
+        self.folder.sync_names()
+    }
+}
+
+impl<'a> DatabaseFolder for SystemDatabase<'a> {
+    type Reader = File;
+
+    type Log = File;
+
+    type LogDisk = FileDisk;
+
+    type Volume = ToldStore<'a>;
+
+    fn claim_or_wait(&mut self) -> Result<(), ClaimFault> {
+        self.folder.claim_soon()
+    }
+
+    fn names(&self) -> io::Result<Vec<String>> {
+        let alloc = self.rt.alloc();
+        let mut names = Vec::new(alloc);
+        for entry in fs::read_dir(self.rt, self.name)? {
+            let entry = entry?;
+            names.push(String::from_str(alloc, entry.file_name())?)?;
+        }
+        Ok(names)
+    }
+
+    fn has(&self, name: &str) -> io::Result<bool> {
+        let place = self.place_of(name)?;
+        match fs::symlink_metadata(self.rt, place.as_path()) {
+            Ok(_) => Ok(true),
+            Err(error) if error.kind() == ErrorKind::NotFound => Ok(false),
+            Err(error) => Err(error),
+        }
+    }
+
+    fn open_file(&self, name: &str) -> io::Result<Standing<File>> {
+        let place = self.place_of(name)?;
+        match self.standing(&place)? {
+            Standing::File(()) => Ok(Standing::File(fs::open(self.rt, place.as_path())?)),
+            Standing::NoFile => Ok(Standing::NoFile),
+            Standing::Nothing => Ok(Standing::Nothing),
+        }
+    }
+
+    fn whole(&self, name: &str) -> io::Result<Standing<Vec<u8>>> {
+        let place = self.place_of(name)?;
+        match self.standing(&place)? {
+            Standing::File(()) => Ok(Standing::File(fs::read(self.rt, place.as_path())?)),
+            Standing::NoFile => Ok(Standing::NoFile),
+            Standing::Nothing => Ok(Standing::Nothing),
+        }
+    }
+
+    fn remove(&mut self, name: &str) -> io::Result<()> {
+        fs::remove_file(self.rt, self.place_of(name)?.as_path())
+    }
+
+    fn open_log(&self, writes: bool) -> Result<Option<LogFile<File>>, LogFault> {
+        opened_log(self.rt, &self.place_of(LOG)?, writes)
+    }
+
+    fn make_log(&mut self) -> Result<File, LogFault> {
+        made_log(self.rt, &self.place_of(LOG)?)
+    }
+
+    fn log_begins(log: &File, bytes: &mut [u8]) -> io::Result<()>
+        ensures { length bytes.new ≡ length bytes.old }
+    {
+        log.read_exact_at(bytes, 0)
+    }
+
+    fn emptied(alloc: Global, log: File) -> io::Result<FileLog>
+        ensures { IfOk result (λ device. bytes_of device ≡ []) }
+    {
+        match FileLog::new(alloc, log) {
+            Ok(device) => Ok(device),
+            Err(why) => Err(why.error),
+        }
+    }
+
+    fn resumed(alloc: Global, log: File, bytes: &mut [u8]) -> io::Result<FileLog>
+        ensures has { IfOk result (λ device. bytes_of device ≡ bytes.new) }
+        ensures lasts { IfOk result (λ device. device.end ≡ length bytes.new) }
+        ensures length { length bytes.new ≡ length bytes.old }
+    {
+        match FileLog::resume(alloc, log, bytes) {
+            Ok(device) => Ok(device),
+            Err(why) => Err(why.error),
+        }
+    }
+
+    fn volume_begins(&self, bytes: &mut [u8]) -> io::Result<Standing<usize>> {
+        let place = self.place_of(VOLUME)?;
+        match fs::symlink_metadata(self.rt, place.as_path()) {
+            Ok(there) if there.is_file() => {}
+            Ok(_) => return Ok(Standing::NoFile),
+            Err(error) if error.kind() == ErrorKind::NotFound => return Ok(Standing::Nothing),
+            Err(error) => return Err(error),
+        }
+        let file = fs::open(self.rt, place.as_path())?;
+        Ok(Standing::File(first_bytes(&file, bytes)?))
+    }
+
+    fn make_volume(&mut self, pages: MemStore) -> Result<ToldStore<'a>, VolumeFault> {
+        let file = volume_file(self.rt, &self.place_of(VOLUME)?)?;
+        match FileStore::new(file, pages) {
+            Ok(store) => Ok(ToldStore {
+                store,
+                notes: self.store_notes,
+            }),
+            Err(why) => Err(VolumeFault::System(why.error)),
+        }
+    }
+
+    fn low_limit(&self) -> Result<Option<u64>, AllocError> {
+        low_limit(self.rt)
+    }
+
+    fn draw(&self, bytes: &mut [u8]) -> io::Result<()> {
+        let mut file = fs::open(self.rt, RANDOM)?;
+        file.read_exact(bytes)
+    }
+}
+
+/// Reads the first bytes of a file, as many as the buffer has room for, and says how many these are.
+fn first_bytes(file: &File, bytes: &mut [u8]) -> io::Result<usize> {
+    let mut len = 0usize;
+    for _ in 0..=bytes.len() {
+        let Some(rest) = bytes.get_mut(len..) else {
+            break;
+        };
+        let count = file.read_at(rest, len as u64)?;
+        if count == 0 {
+            break;
+        }
+        len = len.saturating_add(count);
+    }
+    Ok(len)
+}
+
+/// The standard output. Why its calls failed is noted.
+pub(crate) fn output<'a>(
+    rt: &'a HostRuntime,
+    notes: &'a Notes,
+) -> Noted<'a, Patient<'a, Printer<'a, HostRuntime>>> {
+    Noted {
+        file: Patient {
+            stream: io::writer(rt),
+            rt,
+        },
+        notes,
+    }
+}
