@@ -221,6 +221,10 @@ fn is_master_right(rt: &HostRuntime, folder: &str, text: &mut String) -> Result<
     };
     let log = format!(in rt.alloc(); "{folder}/log")?;
     let master = format!(in rt.alloc(); "{folder}/master")?;
+    if is_no_file(rt, log.as_str()) || is_no_file(rt, master.as_str()) {
+        text.push_str("master: E33 ReadFault\n")?;
+        return Ok(false);
+    }
     match check_master(&files, rt.alloc(), log.as_str(), master.as_str()) {
         Ok(()) => Ok(true),
         Err(fault) => {
@@ -228,6 +232,14 @@ fn is_master_right(rt: &HostRuntime, folder: &str, text: &mut String) -> Result<
             text.push_str(line.as_str())?;
             Ok(false)
         }
+    }
+}
+
+/// Whether what stands at this place is no regular file: of a pipe an open may never end.
+fn is_no_file(rt: &HostRuntime, place: &str) -> bool {
+    match fs::metadata(rt, place) {
+        Ok(there) => !there.is_file(),
+        Err(_) => false,
     }
 }
 
@@ -243,6 +255,12 @@ fn is_copy_sound(
     let (chain, lacking) = chain_of(alloc, headers, id)?;
     if lacking != 0 {
         let line = format!(in alloc; "copy {id} lacks copy {lacking}\n")?;
+        text.push_str(line.as_str())?;
+        return Ok(false);
+    }
+    let log = format!(in alloc; "{folder}/log")?;
+    if is_no_file(rt, log.as_str()) {
+        let line = format!(in alloc; "copy {id}: E33 ReadFault\n")?;
         text.push_str(line.as_str())?;
         return Ok(false);
     }
