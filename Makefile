@@ -14,6 +14,8 @@
 #                 that what the documents name is there
 # make crate      with NAME=CRATE, for a change to one crate: proves it and its tests, tries all of its wrong bodies, and
 #                 runs the checks on build/imgcopy, if that is there
+# make simulate   plays the databases of SEEDS=10000 seeds, from FIRST=1 on, whose power is cut again and again, and compares
+#                 what each cut leaves; it proves and builds the program that does so first
 # make plants     tries all wrong bodies, those of the gate too; with SAMPLE=20 so many, which hang on the commit's hash,
 #                 and with CRATES="NAME NAME" those of some crates; it works on a copy of the crates
 # make bench      measures the program beside a plain Rust program, prints a table, and draws bench/times.svg; it measures
@@ -33,6 +35,8 @@ SHELL := /bin/bash
 BUILT := build/imgcopy
 BENCH_PROGRAMS := build/bench/release
 ROUNDS ?= 5
+SEEDS ?= 10000
+FIRST ?= 1
 PREFIX ?= /usr/local
 
 # A program that is named is taken as it is, also one in build/.
@@ -48,7 +52,7 @@ endif
 need = @command -v "$(1)" > /dev/null || { echo "make: the program '$(1)' is missing: $(2)" >&2; exit 1; }
 
 .DEFAULT_GOAL := imgcopy
-.PHONY: imgcopy quick demo bank test check crate plants bench examples contracts bench-programs install clean
+.PHONY: imgcopy quick demo bank test check crate simulate plants bench examples contracts bench-programs install clean
 .PHONY: need-rt need-python3 need-cargo need-rustc need-imgcopy
 
 imgcopy: need-rt
@@ -74,6 +78,10 @@ check: $(PROGRAM)
 
 crate: need-rt need-python3
 	@tools/crate.sh "$(NAME)"
+
+simulate: need-rt need-python3
+	@tools/build.sh check_power
+	@python3 -m checks.power build/check_power "$(SEEDS)" "$(FIRST)"
 
 plants: need-rt need-python3
 	@python3 tools/plants.py $(if $(SAMPLE),--sample $(SAMPLE)) $(CRATES)

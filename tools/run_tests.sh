@@ -30,8 +30,9 @@ run_gate() {
     program=crates/imgcopy/out/imgcopy
     check_library=crates/check_library/out/check_library
     check_faults=crates/check_faults/out/check_faults
+    check_power=crates/check_power/out/check_power
     bank=crates/demo_bank/out/demo_bank
-    rm -f "$program" "$check_library" "$check_faults" "$bank"
+    rm -f "$program" "$check_library" "$check_faults" "$check_power" "$bank"
     RT_JOBS=$(lanes) PYTHONUNBUFFERED=1 rt ci 2>&1 | tee build/gate.log
     local status=${PIPESTATUS[0]}
     if [[ $(tail -n 1 build/gate.log) =~ $counts_of_rt ]]; then
@@ -99,6 +100,11 @@ repairs() {
 fault_sweeps() {
     "$is_gate" || tools/build.sh check_faults || return
     python3 -m checks.fault_sweeps "$check_faults"
+}
+
+power() {
+    "$is_gate" || tools/build.sh check_power || return
+    python3 -m checks.power "$check_power"
 }
 
 bank() {
@@ -203,6 +209,7 @@ run_checks() {
         check few_threads "$program" rt python3 rustc -- few_threads
         check repairs "$program" rt python3 -- repairs
         check fault_sweeps "$program" rt python3 -- fault_sweeps
+        check power "$program" rt python3 -- power
         check bank "$program" rt python3 -- bank
         check bank_kills "$program" rt python3 -- bank_kills
         check bank_losses "$program" rt python3 rustc -- bank_losses
@@ -221,7 +228,7 @@ run_checks() {
             skip bank_disks "no file system can be made and mounted here"
         fi
     else
-        for name in library_memory few_threads repairs fault_sweeps bank bank_kills bank_losses bank_faults bank_memory \
+        for name in library_memory few_threads repairs fault_sweeps power bank bank_kills bank_losses bank_faults bank_memory \
             bank_threads bank_rot kv bank_disks; do
             skip "$name" "it has rt prove another program"
         done
@@ -243,7 +250,8 @@ if [ "$1" = --gate ]; then
     phase gate run_gate
 else
     is_gate=false
-    program=$1 check_library=build/check_library check_faults=build/check_faults bank=build/demo_bank
+    program=$1 check_library=build/check_library check_faults=build/check_faults
+    check_power=build/check_power bank=build/demo_bank
 fi
 phase checks run_checks
 ! "$is_gate" || phase "sample of wrong bodies" run_sample

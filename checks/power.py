@@ -1,0 +1,60 @@
+"""Plays lives of databases whose log is on a disk in memory, and cuts the power of each.
+
+usage: python3 -m checks.power CHECK_POWER [SEEDS [FIRST]]
+
+CHECK_POWER is the program of that crate. It plays the database of each seed, from FIRST on, 1 where none is told, and
+compares what each cut leaves with the replies that were given. The seeds are shared out to as many processes as there
+are processors. Where none are told there are SEEDS of them, and they have to make CUTS cuts at least, with commits and
+copies among them.
+"""
+
+import os
+import re
+import shutil
+import subprocess
+import sys
+from concurrent.futures import ThreadPoolExecutor
+
+SEEDS = 600
+CUTS = 2000
+SEEDS_OF_A_RUN = 100
+LINE = re.compile(r"cuts (\d+) lives (\d+) commits (\d+) copies (\d+) strange (\d+)\n")
+
+
+class Failure(Exception):
+    """What differs, in one line."""
+
+
+def play(program, seeds, first):
+    """The five counts of a run."""
+    done = subprocess.run(
+        [program, str(seeds), str(first)], stdin=subprocess.DEVNULL, capture_output=True, text=True
+    )
+    line = LINE.fullmatch(done.stdout)
+    if done.returncode != 0 or line is None:
+        raise Failure(f"status {done.returncode}: {(done.stdout or done.stderr).strip()[:200]}")
+    return [int(count) for count in line.groups()]
+
+
+def main(arguments):
+    try:
+        if not 1 <= len(arguments) <= 3 or not all(number.isdigit() for number in arguments[1:]):
+            raise Failure("usage: python3 -m checks.power CHECK_POWER [SEEDS [FIRST]]")
+        program = shutil.which(arguments[0])
+        if program is None:
+            raise Failure(f"there is no program {arguments[0]}")
+        seeds, first = (int(arguments[index]) if index < len(arguments) else count for index, count in ((1, SEEDS), (2, 1)))
+        runs = range(first, first + seeds, SEEDS_OF_A_RUN)
+        with ThreadPoolExecutor(os.cpu_count()) as pool:
+            counts = list(pool.map(lambda at: play(program, min(SEEDS_OF_A_RUN, first + seeds - at), at), runs))
+        cuts, lives, commits, copies, strange = map(sum, zip(*counts, [0] * 5))
+        if len(arguments) == 1 and (cuts < CUTS or commits < CUTS or copies < CUTS):
+            raise Failure(f"there were only {cuts} cuts, {commits} commits and {copies} copies")
+    except (Failure, OSError) as failure:
+        sys.exit(f"power.py: {failure}")
+    print(f"ok power: {cuts} cuts of the power in {lives} lives: {commits} commits were kept, {copies} copies restored the"
+          f" same, and in {strange} logs a torn write spelled another record")
+
+
+if __name__ == "__main__":
+    main(sys.argv[1:])

@@ -1,0 +1,166 @@
+//! Opens what a cut of the power has left of a log, as `imgcopy open` does.
+
+ghost use Rattle.std.specs.Prelude.{◌≡◌, IsTrue, take};
+ghost use Rattle.buffer_pool.specs.Pool.{IsFrameCount};
+ghost use Rattle.engine_restart.specs.LogFile.{LastsOnFile};
+ghost use Rattle.log_front.specs.Front.{end_of};
+ghost use Rattle.log_records.specs.Log.{IsPageCount, log_bytes};
+
+use crate::chance::Chance;
+use crate::drive::{Drive, LogEngine};
+use crate::lost::{LostLog, left_of};
+use crate::wrong::Wrong;
+use aries_core::{Engine, Setup};
+use engine_restart::{Restarted, log_in, restart, store_of};
+use file_devices::FileLog;
+use fuzzy_ckpt::checkpoints_of;
+use log_front::Front;
+use log_store::Master;
+use page_core::{MAX_PAGES, zeros};
+use page_store::MemStore;
+use sqlite_disk::Disk;
+use std::alloc::{AllocError, Global};
+
+/// What an opening comes to: an engine, or what the disk has once the power was cut meanwhile.
+#[derive(Drop)]
+pub enum Opening {
+    Engine(LogEngine),
+    Cut(Vec<u8>),
+}
+
+/// What a restart comes to.
+#[derive(Drop)]
+pub enum Restart {
+    Done(Ready),
+    Cut(Vec<u8>),
+}
+
+/// A database that was restarted, and of which no engine is made yet.
+#[derive(Drop)]
+pub struct Ready {
+    pub restarted: Restarted,
+    device: FileLog<Drive>,
+    /// Its last complete checkpoint.
+    pub master: Option<Master>,
+    /// How many records were found.
+    pub found: usize,
+    /// One of them is a record that nobody wrote.
+    pub is_strange: bool,
+    ghost lasting: { LastsOnFile restarted.log device },
+}
+
+/// Begins a database on a disk that is empty.
+pub fn begin(
+    alloc: Global,
+    setup: Setup,
+    drive: Drive,
+    chance: &mut Chance,
+) -> Result<Opening, Wrong>
+    requires pages { IsPageCount setup.pages }
+    requires frames { IsFrameCount setup.frames }
+    requires usable { IsTrue (⟦<Drive as Disk>⟧.is_usable drive) }
+{
+    let Ok(device) = FileLog::emptied(alloc, drive) else {
+        return Ok(Opening::Cut(Vec::new(alloc)));
+    };
+    let store = MemStore::new(alloc, setup.pages)?;
+    match Engine::new(alloc, setup, store, device) {
+        Ok(engine) => Ok(Opening::Engine(engine)),
+        Err((_, device)) => Ok(Opening::Cut(left_of(alloc, &device.into_disk(), chance)?)),
+    }
+}
+
+/// Reads the log that a disk with these bytes has, compares it with the one that was lost, stores it
+/// again, and takes back what is open in it.
+pub fn restart_on(
+    alloc: Global,
+    bytes: &[u8],
+    drive: Drive,
+    lost: &LostLog,
+    chance: &mut Chance,
+) -> Result<Restart, Wrong>
+    requires { IsTrue (⟦<Drive as Disk>⟧.is_usable drive) }
+{
+    let mut read = zeros(alloc, bytes.len())?;
+    let Ok(mut device) = FileLog::found(alloc, drive, &mut read) else {
+        return Ok(Restart::Cut(Vec::from_slice(alloc, bytes)?));
+    };
+    let Ok(front) = log_in(alloc, &read) else {
+        return Err(Wrong::NotOpened);
+    };
+    let records = front.log().records();
+    lost.check_forced(records)?;
+    let (found, is_strange) = (records.len(), lost.is_strange(records));
+    let master = master_of(&front);
+    if !keep(&mut device, &front, &read) {
+        return cut_off(alloc, device, chance);
+    }
+    match restart(alloc, front, device) {
+        Ok((restarted, device)) => Ok(Restart::Done(Ready {
+            restarted,
+            device,
+            master,
+            found,
+            is_strange,
+        })),
+        Err((_, device)) => cut_off(alloc, device, chance),
+    }
+}
+
+/// Stores the log again, and has it alone last on its disk. Answers whether it does.
+fn keep(device: &mut FileLog<Drive>, front: &Front, bytes: &[u8]) -> bool
+    requires { take (end_of front.now.log) bytes.now ≡ log_bytes front.now.log }
+    ensures { IsTrue result → LastsOnFile front.now.log device.new }
+{
+    let end = front.log().end().0 as usize;
+    match bytes.get(..end) {
+        Some(front) => device.keep(front).is_ok(),
+        None => false,
+    }
+}
+
+fn cut_off(alloc: Global, device: FileLog<Drive>, chance: &mut Chance) -> Result<Restart, Wrong> {
+    Ok(Restart::Cut(left_of(alloc, &device.into_disk(), chance)?))
+}
+
+/// The last complete checkpoint of a log.
+fn master_of(front: &Front) -> Option<Master> {
+    match checkpoints_of(front.log()).last {
+        Some(point) => Some(Master {
+            begin: point.begin,
+            end: point.end,
+        }),
+        None => None,
+    }
+}
+
+impl Ready {
+    ghost use Rattle.buffer_pool.specs.Pool.{IsFrameCount};
+
+    /// What is known of its log where the power is cut meanwhile.
+    pub fn lost(&self, alloc: Global) -> Result<LostLog, AllocError> {
+        let undone = self.restarted.records();
+        LostLog::of_restart(alloc, self.found, undone, self.is_strange)
+    }
+
+    /// An engine that goes on from there.
+    #[tactic(auto, using(crate::proofs::Pages::are_numbered))]
+    pub fn into_engine(self, alloc: Global, frames: u32) -> Result<LogEngine, Wrong>
+        requires { IsFrameCount frames }
+    {
+        let Ready {
+            restarted,
+            device,
+            ..
+        } = self;
+        let pages = restarted.pages();
+        if pages.is_empty() || pages.len() > MAX_PAGES as usize {
+            return Err(Wrong::NotOpened);
+        }
+        let store = store_of(alloc, pages)?;
+        match restarted.into_engine(alloc, frames, store, device) {
+            Ok(engine) => Ok(engine),
+            Err(_) => Err(Wrong::NotOpened),
+        }
+    }
+}

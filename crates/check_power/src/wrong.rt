@@ -1,0 +1,83 @@
+//! What differed from what was expected.
+
+use std::alloc::{AllocError, AllocFailed};
+use std::fmt;
+
+/// What differed. Its text is its line.
+#[derive(Clone, Copy, Debug)]
+pub enum Wrong {
+    OutOfMemory,
+    /// A read of a living engine gave another number.
+    Read {
+        found: u64,
+        wanted: u64,
+    },
+    /// A transaction took back another count of changes.
+    Undo {
+        left: u64,
+    },
+    /// No database was opened, though no call failed.
+    NotOpened,
+    /// The log has other forced records: the first one of these that differs.
+    Forced {
+        record: u64,
+    },
+    /// The volume has another count of pages.
+    PageCount {
+        found: u64,
+        wanted: u64,
+    },
+    /// A slot has not the committed number.
+    Number {
+        page: u32,
+        slot: u16,
+        found: u64,
+        wanted: u64,
+    },
+    /// A complete copy was not taken up.
+    NotTakenUp {
+        copy: u32,
+    },
+    /// A complete copy was not restored.
+    NotRestored {
+        copy: u32,
+    },
+    /// A complete copy restored another volume.
+    OtherVolume {
+        copy: u32,
+    },
+}
+
+impl fmt::Display for Wrong {
+    fn fmt<W: fmt::Write>(&self, f: &mut fmt::Formatter<W>) -> fmt::Result {
+        match self {
+            Wrong::OutOfMemory => f.write_str("memory ran out"),
+            Wrong::Read { found, wanted } => write!(f, "a read gave {found}, not {wanted}"),
+            Wrong::Undo { left } => write!(f, "{left} changes were not taken back"),
+            Wrong::NotOpened => f.write_str("the log was not opened"),
+            Wrong::Forced { record } => write!(f, "the forced record {record} is another"),
+            Wrong::PageCount { found, wanted } => write!(f, "{found} pages, not {wanted}"),
+            Wrong::Number {
+                page,
+                slot,
+                found,
+                wanted,
+            } => write!(f, "page {page} slot {slot} has {found}, not {wanted}"),
+            Wrong::NotTakenUp { copy } => write!(f, "copy {copy} was not taken up"),
+            Wrong::NotRestored { copy } => write!(f, "copy {copy} was not restored"),
+            Wrong::OtherVolume { copy } => write!(f, "copy {copy} restored another volume"),
+        }
+    }
+}
+
+impl From<AllocError> for Wrong {
+    fn from(_error: AllocError) -> Wrong {
+        Wrong::OutOfMemory
+    }
+}
+
+impl<T: Drop> From<AllocFailed<T>> for Wrong {
+    fn from(_error: AllocFailed<T>) -> Wrong {
+        Wrong::OutOfMemory
+    }
+}
