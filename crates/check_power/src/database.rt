@@ -188,7 +188,7 @@ impl Database {
         let lived = self.make_calls(alloc, &mut engine, chance);
         let lost = lose(alloc, engine, chance);
         lived?;
-        Ok(lost?)
+        lost
     }
 
     /// Makes calls, up to some behind the first that met a fault.

@@ -77,7 +77,7 @@ pub fn lose(
     alloc: Global,
     engine: LogEngine,
     chance: &mut Chance,
-) -> Result<(LostLog, Vec<u8>), AllocError> {
+) -> Result<(LostLog, Vec<u8>), Wrong> {
     let (retired, store, device) = engine.into_parts();
     drop(store);
     let forced = retired.forced_end().records_below();
@@ -92,10 +92,13 @@ pub fn lose(
 }
 
 /// What a cut of the power leaves of a disk, or seldom the end of the process alone.
-pub fn left_of(alloc: Global, drive: &Drive, chance: &mut Chance) -> Result<Vec<u8>, AllocError> {
+pub fn left_of(alloc: Global, drive: &Drive, chance: &mut Chance) -> Result<Vec<u8>, Wrong> {
+    if drive.inner().is_misused() {
+        return Err(Wrong::Misused);
+    }
     if chance.one_in(12) {
-        return drive.inner().written(alloc);
+        return Ok(drive.inner().written(alloc)?);
     }
     let grain = Grain::draw(chance);
-    drive.inner().torn(alloc, grain, chance)
+    Ok(drive.inner().torn(alloc, grain, chance)?)
 }

@@ -1,7 +1,8 @@
 //! A disk that keeps what it was asked to write since its last sync, and whose calls fail when they
 //! are to.
 
-ghost use Rattle.std.specs.Prelude.{◌≡◌, ◌+◌, ◌&&◌, ◌↔◌, not, false, IsErr, IsTrue};
+ghost use Rattle.std.specs.Prelude.{◌≡◌, ◌+◌, ◌&&◌, ◌↔◌, not, false, IfOk, IsErr, IsTrue, OnOk};
+ghost use Rattle.check_power.specs.Steps.{MayReach};
 ghost use Rattle.sqlite_disk.specs.Disk.{CountsFault};
 ghost use Rattle.sqlite_disk.specs.Refusal.{finds_no_room};
 
@@ -23,6 +24,8 @@ pub struct Platter<D: Disk> {
     calls: u64,
     refused: u64,
     sync_refused: bool,
+    /// It was asked to change or sync bytes once a sync had failed.
+    is_misused: bool,
 }
 
 impl<D: Disk> Platter<D> {
@@ -40,7 +43,13 @@ impl<D: Disk> Platter<D> {
             calls: 0,
             refused: 0,
             sync_refused: false,
+            is_misused: false,
         }
+    }
+
+    /// Whether it was asked to change or sync bytes once a sync had failed.
+    pub fn is_misused(&self) -> bool {
+        self.is_misused
     }
 
     /// What a cut of the power leaves: of each step since the last sync all, nothing or a part.
@@ -49,7 +58,10 @@ impl<D: Disk> Platter<D> {
         alloc: Global,
         grain: Grain,
         chance: &mut Chance,
-    ) -> Result<Vec<u8>, AllocError> {
+    ) -> Result<Vec<u8>, AllocError>
+        ensures { IfOk result (λ left.
+            MayReach self.now.steps.items self.now.synced.items left.items) }
+    {
         let mut left = Vec::from_slice(alloc, &self.synced)?;
         for step in &self.steps {
             step.tear(&mut left, grain, chance)?;
@@ -58,14 +70,19 @@ impl<D: Disk> Platter<D> {
     }
 
     /// What the end of the process alone leaves: all that was written.
-    pub fn written(&self, alloc: Global) -> Result<Vec<u8>, AllocError> {
+    pub fn written(&self, alloc: Global) -> Result<Vec<u8>, AllocError>
+        ensures { IfOk result (λ left.
+            MayReach self.now.steps.items self.now.synced.items left.items) }
+    {
         let mut left = Vec::from_slice(alloc, &self.synced)?;
         make_all(&mut left, &self.steps)?;
         Ok(left)
     }
 }
 
-fn make_all(left: &mut Vec<u8>, steps: &[Step]) -> Result<(), AllocError> {
+fn make_all(left: &mut Vec<u8>, steps: &[Step]) -> Result<(), AllocError>
+    ensures { OnOk result (MayReach steps.now left.old.items left.new.items) }
+{
     for step in steps {
         step.make(left)?;
     }
@@ -84,6 +101,13 @@ fn note_write(steps: &mut Vec<Step>, at: usize, bytes: &[u8]) -> Result<(), Allo
     let step = Step::write(*steps.allocator(), at, bytes)?;
     steps.push(step)?;
     Ok(())
+}
+
+/// Notes a call, and whether a sync had failed before it.
+fn note_misuse(is_misused: &mut bool, has_failed: bool) {
+    if has_failed {
+        *is_misused = true;
+    }
 }
 
 /// Counts a call, and answers its number.
@@ -159,6 +183,7 @@ impl<D: Disk> Disk for Platter<D> {
     }
 
     fn write_at(&mut self, at: usize, bytes: &[u8]) -> io::Result<()> {
+        note_misuse(&mut self.is_misused, self.sync_refused);
         let call = counted(&mut self.calls);
         let fails = self.trouble.fails_write(call)
             || note_write(&mut self.steps, at, bytes).is_err();
@@ -167,6 +192,7 @@ impl<D: Disk> Disk for Platter<D> {
     }
 
     fn set_len(&mut self, len: usize) -> io::Result<()> {
+        note_misuse(&mut self.is_misused, self.sync_refused);
         let call = counted(&mut self.calls);
         let fails = self.trouble.fails_write(call) || self.steps.push(Step::SetLen(len)).is_err();
         ask(&mut self.refused, fails)?;
@@ -174,6 +200,7 @@ impl<D: Disk> Disk for Platter<D> {
     }
 
     fn sync(&mut self) -> io::Result<()> {
+        note_misuse(&mut self.is_misused, self.sync_refused);
         let call = counted(&mut self.calls);
         let fails = self.trouble.fails_sync(call);
         if fails && self.trouble.drops {

@@ -1,6 +1,7 @@
 //! What a disk was asked to write since its last sync, and what a cut of the power makes of it.
 
-ghost use Rattle.std.specs.Prelude.{◌<◌};
+ghost use Rattle.std.specs.Prelude.{◌<◌, length, OnOk};
+ghost use Rattle.sqlite_disk.specs.Disk.{Cut, Torn};
 
 use crate::chance::Chance;
 use std::alloc::{AllocError, Global};
@@ -47,6 +48,9 @@ enum Piece {
 }
 
 impl Step {
+    ghost use Rattle.std.specs.Prelude.{OnOk};
+    ghost use Rattle.check_power.specs.Steps.{MayMake};
+
     /// A write of these bytes.
     pub fn write(alloc: Global, at: usize, bytes: &[u8]) -> Result<Step, AllocError> {
         let bytes = Vec::from_slice(alloc, bytes)?;
@@ -54,7 +58,9 @@ impl Step {
     }
 
     /// Makes the whole step.
-    pub fn make(&self, left: &mut Vec<u8>) -> Result<(), AllocError> {
+    pub fn make(&self, left: &mut Vec<u8>) -> Result<(), AllocError>
+        ensures { OnOk result (MayMake self.now left.old.items left.new.items) }
+    {
         match self {
             Step::Write { at, bytes } => {
                 let end = at.checked_add(bytes.len()).ok_or(AllocError)?;
@@ -74,7 +80,9 @@ impl Step {
         left: &mut Vec<u8>,
         grain: Grain,
         chance: &mut Chance,
-    ) -> Result<(), AllocError> {
+    ) -> Result<(), AllocError>
+        ensures { OnOk result (MayMake self.now left.old.items left.new.items) }
+    {
         match chance.below(4) {
             0 => Ok(()),
             1 => self.make(left),
@@ -87,7 +95,9 @@ impl Step {
 }
 
 /// Leaves any length between the old one and the new one.
-fn tear_length(left: &mut Vec<u8>, len: usize, chance: &mut Chance) -> Result<(), AllocError> {
+fn tear_length(left: &mut Vec<u8>, len: usize, chance: &mut Chance) -> Result<(), AllocError>
+    ensures { OnOk result (Cut len left.old.items left.new.items) }
+{
     let old = left.len();
     if len < old {
         left.truncate(len + chance.up_to(old - len));
@@ -104,7 +114,9 @@ fn tear_write(
     bytes: &[u8],
     grain: Grain,
     chance: &mut Chance,
-) -> Result<(), AllocError> {
+) -> Result<(), AllocError>
+    ensures { OnOk result (Torn at (length bytes.now) left.old.items left.new.items) }
+{
     let old = left.len();
     let end = at.checked_add(bytes.len()).ok_or(AllocError)?;
     if old < end {

@@ -16,6 +16,8 @@ pub enum Wrong {
     Undo {
         left: u64,
     },
+    /// The disk was asked to change or sync bytes once a sync had failed.
+    Misused,
     /// No database was opened, though no call failed.
     NotOpened,
     /// The log has other forced records: the first one of these that differs.
@@ -54,6 +56,7 @@ impl fmt::Display for Wrong {
             Wrong::OutOfMemory => f.write_str("memory ran out"),
             Wrong::Read { found, wanted } => write!(f, "a read gave {found}, not {wanted}"),
             Wrong::Undo { left } => write!(f, "{left} changes were not taken back"),
+            Wrong::Misused => f.write_str("the disk was used after a sync had failed"),
             Wrong::NotOpened => f.write_str("the log was not opened"),
             Wrong::Forced { record } => write!(f, "the forced record {record} is another"),
             Wrong::PageCount { found, wanted } => write!(f, "{found} pages, not {wanted}"),
