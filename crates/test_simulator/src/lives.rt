@@ -1,0 +1,224 @@
+//! Databases that live on a machine whose power is cut: no commit that was answered is lost.
+
+use crate::cut::left_of;
+use crate::draw::Draw;
+use crate::folder::{SimulatedFolder, SimulatedOutput, SimulatedReader};
+use crate::machine::{Machine, State, Step, copied};
+use open_database::{OpenCall, OpenEnd, open_in};
+use std::alloc::Global;
+use std::io;
+use std::io::ErrorKind;
+use std::process::Abort;
+
+const SEEDS: u64 = 4;
+
+const CUTS: u64 = 25;
+
+const PAGES: u32 = 4;
+
+const SLOTS: u64 = 4;
+
+/// How many numbers are looked at.
+const NUMBERS: usize = 16;
+
+/// What the numbers are behind a commit, which is that of this line.
+#[derive(Clone, Copy)]
+struct Committed {
+    line: usize,
+    numbers: [u64; NUMBERS],
+}
+
+/// The lines of a life, and what its commits leave.
+#[derive(Drop)]
+struct Plan {
+    script: String,
+    commits: Vec<Committed>,
+}
+
+/// Transactions one after another, and now and then a checkpoint or a copy.
+fn plan_of(alloc: Global, draw: &mut Draw) -> io::Result<Plan> {
+    let mut script = String::new(alloc);
+    let mut commits = Vec::new(alloc);
+    let mut numbers = [0; NUMBERS];
+    commits.push(Committed { line: 0, numbers })?;
+    let mut line = 0usize;
+    for txn in 1..=8u64 {
+        script.push_str("begin\n")?;
+        for _ in 0..=draw.below(3) {
+            let (page, slot, value) = (draw.below(PAGES as u64), draw.below(SLOTS), draw.next());
+            script.push_str(format!(in alloc; "set {txn} {page} {slot} {value}\n")?.as_str())?;
+            let place = page.saturating_mul(SLOTS).saturating_add(slot) as usize;
+            if let Some(number) = numbers.get_mut(place) {
+                *number = value;
+            }
+            line = line.saturating_add(1);
+        }
+        script.push_str(format!(in alloc; "commit {txn}\n")?.as_str())?;
+        line = line.saturating_add(1);
+        commits.push(Committed { line, numbers })?;
+        line = line.saturating_add(1);
+        match draw.below(4) {
+            0 => {
+                script.push_str("checkpoint\n")?;
+                line = line.saturating_add(1);
+            }
+            1 => {
+                script.push_str("copy\n")?;
+                line = line.saturating_add(1);
+            }
+            _ => {}
+        }
+    }
+    Ok(Plan { script, commits })
+}
+
+/// Lines that read each number.
+fn reads(alloc: Global) -> io::Result<String> {
+    let mut script = String::new(alloc);
+    for page in 0..PAGES {
+        for slot in 0..SLOTS {
+            script.push_str(format!(in alloc; "read {page} {slot}\n")?.as_str())?;
+        }
+    }
+    Ok(script)
+}
+
+/// A life of the database on a machine with these files. Answers the steps of the machine.
+fn life(alloc: Global, first: &State, script: &str) -> io::Result<(OpenEnd, State)> {
+    let machine = Machine::new(first.copied()?);
+    let call = OpenCall {
+        folder: "",
+        pages: Some(PAGES),
+        frames: PAGES,
+        salvage: false,
+        strict: false,
+    };
+    let folder = SimulatedFolder {
+        alloc,
+        machine: &machine,
+    };
+    let input = SimulatedReader::new(copied(alloc, script.as_bytes())?);
+    let output = SimulatedOutput { machine: &machine };
+    let end = open_in(alloc, folder, &call, input, output);
+    Ok((end, machine.into_state()))
+}
+
+/// All that was told in these steps.
+fn told_in(alloc: Global, steps: &[Step]) -> io::Result<Vec<u8>> {
+    let mut told = Vec::new(alloc);
+    for step in steps {
+        if let Step::Told { bytes } = step {
+            told.extend_from_slice(bytes)?;
+        }
+    }
+    Ok(told)
+}
+
+fn line_count(told: &[u8]) -> usize {
+    told.iter().filter(|byte| **byte == b'\n').count()
+}
+
+/// The numbers that were answered to `reads`.
+fn numbers_in(told: &[u8]) -> [u64; NUMBERS] {
+    let mut numbers = [0; NUMBERS];
+    let mut place = 0usize;
+    for line in std::str::from_utf8(told).unwrap_or("").lines() {
+        if let Some(digits) = line.strip_prefix("value ") {
+            if let Some(number) = numbers.get_mut(place) {
+                *number = digits.parse().unwrap_or(0);
+            }
+            place = place.saturating_add(1);
+        }
+    }
+    numbers
+}
+
+/// Whether these numbers are those behind the last commit that was answered, or behind the next one.
+fn are_kept(commits: &[Committed], answered: usize, numbers: &[u64; NUMBERS]) -> bool {
+    let mut last = 0usize;
+    for (place, commit) in commits.iter().enumerate() {
+        if commit.line < answered {
+            last = place;
+        }
+    }
+    let behind = commits.get(last..).unwrap_or(&[]);
+    behind
+        .iter()
+        .take(2)
+        .any(|commit| commit.numbers == *numbers)
+}
+
+/// Cuts the power once in a life, and once in the opening behind it, and looks at what is left.
+fn is_kept_at(
+    rt: &HostRuntime,
+    plan: &Plan,
+    first: &State,
+    lived: &State,
+    draw: &mut Draw,
+) -> io::Result<bool> {
+    let alloc = rt.alloc();
+    let reads = reads(alloc)?;
+    let at = draw.below(lived.steps.len() as u64) as usize;
+    let steps = lived.steps.get(..at).unwrap_or(&[]);
+    let told = told_in(alloc, steps)?;
+    if told.is_empty() {
+        // Until it is opened, the header of a new log may be torn.
+        return Ok(true);
+    }
+    // The first line is no answer.
+    let answered = line_count(&told).saturating_sub(1);
+    let left = left_of(first, steps, draw)?;
+    let (_, again) = life(alloc, &left, reads.as_str())?;
+    let at = draw.below(again.steps.len() as u64) as usize;
+    let left = left_of(&left, again.steps.get(..at).unwrap_or(&[]), draw)?;
+    let (end, last) = life(alloc, &left, reads.as_str())?;
+    let numbers = numbers_in(&told_in(alloc, &last.steps)?);
+    let is = end == OpenEnd::Well && are_kept(&plan.commits, answered, &numbers);
+    if !is {
+        let told = told_in(alloc, &last.steps)?;
+        let text = std::str::from_utf8(&told).unwrap_or("");
+        let before = told_in(alloc, steps)?;
+        let earlier = std::str::from_utf8(&before).unwrap_or("");
+        let failed = end == OpenEnd::Failed;
+        let length = match left.file_of("log") {
+            Some(file) => left.bytes_of(file).len(),
+            None => 0,
+        };
+        println!(rt;
+            "cut at {at} answered {answered} failed {failed} log {length} told [{text}] before [{earlier}]"
+        )?;
+        for entry in &left.entries {
+            println!(rt; "name {}", entry.name)?;
+        }
+    }
+    Ok(is)
+}
+
+/// The first cut of a seed that loses a commit.
+fn lost_at(rt: &HostRuntime, seed: u64) -> io::Result<Option<u64>> {
+    let alloc = rt.alloc();
+    let mut draw = Draw::new(seed);
+    let plan = plan_of(alloc, &mut draw)?;
+    let first = State::new(alloc);
+    let (end, lived) = life(alloc, &first, plan.script.as_str())?;
+    if end != OpenEnd::Well {
+        return Err(io::Error::from(ErrorKind::Other));
+    }
+    for cut in 0..CUTS {
+        if !is_kept_at(rt, &plan, &first, &lived, &mut draw)? {
+            return Ok(Some(cut));
+        }
+    }
+    Ok(None)
+}
+
+#[test]
+fn no_commit_is_lost(rt: HostRuntime) {
+    for seed in 1..=SEEDS {
+        match lost_at(&rt, seed) {
+            Ok(None) => {}
+            Ok(Some(cut)) => panic!(rt; "seed {seed} loses a commit at cut {cut}"),
+            Err(error) => panic!(rt; "seed {seed}: {error}"),
+        }
+    }
+}
