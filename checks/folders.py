@@ -13,6 +13,7 @@ Streams that are full or closed harm no file.
 """
 
 import hashlib
+import os
 import shutil
 import struct
 import subprocess
@@ -313,6 +314,9 @@ def bare(folders, day):
     folders.wants("a folder as the master record",
                   done.returncode == 2 and b"master is not the file that the manifest names" in done.stdout.splitlines(), done)
     (day / "master").rmdir()
+    os.mkfifo(day / "master")
+    folders.says("a pipe as the master record", folders.run(*verify), 2, "master: E33 ReadFault\ncopy 1 sound\n")
+    (day / "master").unlink()
     (day / "master").write_bytes(master)
 
 

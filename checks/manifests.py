@@ -530,8 +530,8 @@ def misspelled(manifest):
 
 
 def check_no_file(folder, files):
-    """A folder or a pipe has the name of the manifest."""
-    for what, make in (("a folder", os.mkdir), ("a pipe", os.mkfifo)):
+    """A folder, a pipe or a link that leads nowhere has the name of the manifest."""
+    for what, make in (("a folder", os.mkdir), ("a pipe", os.mkfifo), ("a link", lambda path: path.symlink_to("nowhere"))):
         folder.fill(without(files, "manifest"))
         make(folder.place / "manifest")
         before = touched(folder)

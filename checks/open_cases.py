@@ -227,6 +227,11 @@ def check_copies(program):
                   line + "copy 4\ncopy 5\n", *told)
     if not all(os.path.lexists(folder / f"copy-{number}") for number in (1, 2, 3)):
         raise Failure("a copy that cannot be read has another name")
+    for make in (os.mkdir, os.mkfifo):
+        folder = program.folder(log=log)
+        make(folder / "closed")
+        program.refuse("a note of a closing that is no file", folder, [], "E33 ReadFault",
+                       f"imgcopy: {folder}/closed: this is no regular file")
     folder = program.folder(log=log, copy_1=copy)
     for name in ("copy-2.unfinished-1", "master.unfinished-7", "closed.unfinished-1", "manifest.unfinished-1",
                  "log.left-out-2.unfinished-1", "copy-1.unfinished", "log.unfinished-1"):
