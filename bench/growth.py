@@ -56,7 +56,7 @@ def measure(series, number, imgcopy, tools, rounds):
     mine = os.sched_getaffinity(0)
     with tempfile.TemporaryDirectory(dir=find_folder()) as folder:
         job = series.input_of(number).prepare(tools, Path(folder))
-        programs = {"imgcopy": [imgcopy, *job.words], "plain": [job.plain, *job.words]}
+        programs = job.both(imgcopy)
         if series.is_of_processors:
             os.sched_setaffinity(0, sorted(mine)[:number])
         try:

@@ -111,11 +111,13 @@ class Job(NamedTuple):
     allowed: int = None
     output_size: int = None
 
-    def programs(self, imgcopy, tools):
+    def both(self, imgcopy):
         # No manifest stands beside the files, and a line would say so.
         aside = ["--no-manifest"] if self.words[0] in ("restore", "audit") else []
-        programs = {"imgcopy": [imgcopy, self.words[0], *aside, *self.words[1:]], "plain": [self.plain, *self.words]}
-        return programs | ({"copy": [tools["bare_copy"]]} if self.words == ["redo"] else {})
+        return {"imgcopy": [imgcopy, self.words[0], *aside, *self.words[1:]], "plain": [self.plain, *self.words]}
+
+    def programs(self, imgcopy, tools):
+        return self.both(imgcopy) | ({"copy": [tools["bare_copy"]]} if self.words == ["redo"] else {})
 
 
 LONGEST_SCRIPT = 2**24
