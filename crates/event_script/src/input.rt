@@ -12,8 +12,9 @@ use std::io::Read;
 /// How many bytes a script has at most.
 pub const MAX_SCRIPT_BYTES: usize = 16_777_216;
 
-/// How many bytes a reader is asked for at once, at most.
-const BUFFER_BYTES: usize = 65_536;
+/// How many bytes a reader is asked for at once, at most. They are few, since an open database reads
+/// each line as a script of its own, and the buffer's zeros are written each time.
+const BUFFER_BYTES: usize = 4_096;
 
 /// Reads the bytes of a script through a buffer.
 fn read_through<R: Read>(
