@@ -126,7 +126,13 @@ def backups(folders):
     folders.wants("its numbers", restored(folders, away, "copy-1", "copy-2") == NUMBERS, done)
     done = folders.run("backup", folder, "--full")
     folders.wants("a full backup", done.returncode == 0 and restored(folders, folder, "copy-3") == NUMBERS, done)
+    # What a backup that was killed left is removed.
+    for name in ("log.unfinished-1", "copy-2.unfinished-3", "log.unfinished-x"):
+        (away / name).write_bytes(b"a part of it")
     done = folders.run("backup", folder, "--on", "1", "--into", away)
+    unfinished = [name for name in sums_of(away) if ".unfinished-" in name]
+    folders.wants("unfinished files of an older backup", unfinished == ["log.unfinished-x"], done)
+    (away / "log.unfinished-x").unlink()
     folders.wants("a backup on a copy", restored(folders, away, "copy-1", "copy-4") == NUMBERS, done)
     done = folders.run("verify", folder)
     wanted = [f"{name} sound" for name in ("copy-1", "copy-2", "copy-3", "copy-4", "log", "master")]

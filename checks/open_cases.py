@@ -240,6 +240,13 @@ def check_copies(program):
     left = ["closed", "copy-1", "copy-1.unfinished", "log", "log.unfinished-1", "manifest", "master", "volume"]
     if sorted(contents(folder)) != left:
         raise Failure(f"unfinished files: {sorted(contents(folder))}")
+    # A renewal that was cut off may leave a folder of such a name, which is no file of this database.
+    folder = program.folder(log=log, copy_1=copy)
+    (folder / "copy-9.unfinished-1" / "deep").mkdir(parents=True)
+    (folder / "master.unfinished-2").touch()
+    program.check("an unfinished folder", program.run(folder), 0, line)
+    if not (folder / "copy-9.unfinished-1" / "deep").is_dir() or (folder / "master.unfinished-2").exists():
+        raise Failure("an unfinished folder: it has to stay, and an unfinished file to go")
     check_unwritten(program, log, copy)
 
 

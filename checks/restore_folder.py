@@ -10,6 +10,7 @@ leaves no output.
 """
 
 import hashlib
+import os
 import subprocess
 import sys
 import tempfile
@@ -163,6 +164,17 @@ def logs(restorer):
                      told=[wanted.stderr.decode().splitlines()[0]])
     restorer.refused("a log that was cut beside its manifest", 2, "shop", told=["imgcopy: shop/log (log): " + OTHER])
     back()
+    # Of a pipe an open may never end.
+    for name in ("log", "master"):
+        back = restorer.spoiled(name, lambda data: data)
+        (restorer.folder / name).unlink()
+        os.mkfifo(restorer.folder / name)
+        told = ["E33 ReadFault", f"imgcopy: shop/{name}: this is no regular file"]
+        restorer.refused(f"a pipe as the {name}", 2, "shop", told=told)
+        restorer.refused(f"a pipe as the {name}, and a copy", 2, "--copy", "1", "shop", told=told)
+        (restorer.folder / name).unlink()
+        back()
+    restorer.takes("the files are back", 4)
 
 
 def named(restorer):

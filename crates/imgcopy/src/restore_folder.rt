@@ -1,7 +1,7 @@
 //! The command `restore` with a folder: which of the chains of copies there it takes.
 
 use crate::copy_chain::{chain_of, newest_chain};
-use crate::list::{header_of, ids_in};
+use crate::list::{header_of, ids_in, is_irregular, tell_irregular};
 use crate::reasons::Named;
 use crate::restores::{Ended, Outputs, restore};
 use checked_files::ManifestUse;
@@ -79,6 +79,9 @@ fn restored(
         Ok(ids) => ids,
         Err(fault) => return Ok(told_fault(rt, &fault)),
     };
+    if has_irregular(rt, folder)? {
+        return Ok(ExitCode::from(FAULT_STATUS));
+    }
     let mut headers = headers_in(rt, folder, ids.as_slice(), copy)?;
     let mut first = None;
     for _ in 0..=ids.len() {
@@ -110,6 +113,18 @@ fn restored(
         Some(status) => status,
         None => told_no_chain(rt, folder, copy, ids.is_empty()),
     })
+}
+
+/// Whether the log or the master record of a folder is no regular file, which is told.
+fn has_irregular(rt: &HostRuntime, folder: &str) -> Result<bool, AllocError> {
+    for name in ["log", "master"] {
+        let place = format!(in rt.alloc(); "{folder}/{name}")?;
+        if is_irregular(rt, place.as_str()) {
+            tell_irregular(rt, place.as_str());
+            return Ok(true);
+        }
+    }
+    Ok(false)
 }
 
 /// The headers of the copies of these ids, up to that of the copy that is wanted. What is wrong with

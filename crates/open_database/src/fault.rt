@@ -13,7 +13,6 @@ use std::alloc::{AllocError, AllocFailed};
 use std::io;
 use std::io::ErrorKind;
 use system_files::ClaimFault;
-use txn_table::TablesFault;
 
 /// The number that the system has for a file that is not there.
 pub(crate) const NO_ENTRY: i32 = 2;
@@ -76,8 +75,6 @@ pub(crate) enum OpenFault {
     /// What was open in the log could not be taken back. The system has this number for why, if it
     /// was a call of the log's file.
     Restart(RestartFault, Option<i32>),
-    /// There is no room to take back what was open in the log at some moment.
-    NoRoom,
     /// The header of a new log could not be stored.
     NoHeader(Option<i32>),
 }
@@ -144,9 +141,7 @@ impl OpenFault {
             | OpenFault::Stranger(_)
             | OpenFault::NoCount
             | OpenFault::OtherCount { .. } => None,
-            OpenFault::Restart(RestartFault::LogFull, _) | OpenFault::NoRoom => {
-                Some(FaultName::LogFull)
-            }
+            OpenFault::Restart(RestartFault::LogFull, _) => Some(FaultName::LogFull),
             OpenFault::Restart(RestartFault::LogFault, _) | OpenFault::NoHeader(_) => {
                 Some(FaultName::LogFault)
             }
@@ -173,10 +168,7 @@ impl From<ClaimFault> for OpenFault {
 }
 
 impl<S: PageStore + Drop, D: LogDevice + Drop> From<NotResumed<S, D>> for OpenFault {
-    fn from(not: NotResumed<S, D>) -> OpenFault {
-        match not.fault {
-            TablesFault::OutOfMemory => OpenFault::OutOfMemory,
-            TablesFault::NoRoom => OpenFault::NoRoom,
-        }
+    fn from(_not: NotResumed<S, D>) -> OpenFault {
+        OpenFault::OutOfMemory
     }
 }

@@ -6,7 +6,7 @@ use crate::names::{CLOSED, LOG, MANIFEST, MASTER, VOLUME, copy_of, is_harmless, 
 use crate::place::Place;
 use copy_vault::CopyId;
 use std::alloc::Global;
-use std::io;
+use std::io::ErrorKind;
 
 /// The files of a folder that are those of a database, by their names.
 #[derive(Drop)]
@@ -59,7 +59,7 @@ impl Inventory {
         requires { F.is_claimed folder.old }
         ensures { F.is_claimed folder.new }
     {
-        remove_all(folder, &self.unfinished).map_err(OpenFault::of_folder)
+        remove_all(folder, &self.unfinished)
     }
 
     /// Notes the name of a file. Says whether it is one of a database.
@@ -100,12 +100,20 @@ impl Inventory {
     }
 }
 
-fn remove_all<F: DatabaseFolder>(folder: &mut F, names: &[String]) -> io::Result<()>
+/// Removes the files of these names. A folder that has one of them stays: no life leaves one.
+pub(crate) fn remove_all<F: DatabaseFolder>(
+    folder: &mut F,
+    names: &[String],
+) -> Result<(), OpenFault>
     requires { F.is_claimed folder.old }
     ensures { F.is_claimed folder.new }
 {
     for name in names {
-        folder.remove(name.as_str())?;
+        match folder.remove(name.as_str()) {
+            Ok(()) => {}
+            Err(error) if error.kind() == ErrorKind::IsADirectory => {}
+            Err(error) => return Err(OpenFault::of_folder(error)),
+        }
     }
     Ok(())
 }

@@ -58,6 +58,14 @@ pub(crate) fn is_unfinished(name: &str) -> bool {
     }
 }
 
+/// Whether a file of a backup in a second folder has this name as long as it is not whole.
+pub(crate) fn is_unfinished_backup(name: &str) -> bool {
+    match name.split_once(UNFINISHED) {
+        Some((LOG, number)) => number_of(number).is_some(),
+        _ => is_unfinished(name),
+    }
+}
+
 /// Whether a file of this name is written beside its name first.
 fn is_put(name: &str) -> bool {
     name == MASTER

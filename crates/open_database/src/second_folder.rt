@@ -11,9 +11,10 @@ use crate::database_folder::DatabaseFolder;
 use crate::engine_files::{place, sum_of};
 use crate::fault::OpenFault;
 use crate::found_manifest::read_manifest;
+use crate::inventory::remove_all;
 use crate::kept_manifest::{note_file, without_lost};
 use crate::manifest_file::put_text;
-use crate::names::MANIFEST;
+use crate::names::{MANIFEST, is_unfinished_backup};
 use crate::place::Place;
 use crate::told::Teller;
 use crate::whole_file::{Bytes, read_whole};
@@ -42,6 +43,7 @@ pub(crate) fn put_beside<O: DatabaseFolder, F: DatabaseFolder>(
     for id in copies {
         check_same(alloc, from, folder, *id)?;
     }
+    clear(alloc, folder)?;
     put(alloc, folder, SavedName::Log, &log, &mut manifest)?;
     for id in copies {
         put_missing(alloc, from, folder, *id, &mut manifest)?;
@@ -99,6 +101,20 @@ fn found<F: DatabaseFolder>(
         Some(bytes) => Ok(bytes),
         None => Err(OpenFault::LogLost(place_of(&name))),
     }
+}
+
+/// Removes what an older backup left unfinished.
+fn clear<F: DatabaseFolder>(alloc: Global, folder: &mut F) -> Result<(), OpenFault>
+    requires { F.is_claimed folder.old }
+    ensures { F.is_claimed folder.new }
+{
+    let mut unfinished = Vec::new(alloc);
+    for name in folder.names().map_err(OpenFault::of_folder)? {
+        if is_unfinished_backup(name.as_str()) {
+            unfinished.push(name)?;
+        }
+    }
+    remove_all(folder, &unfinished)
 }
 
 /// Sees that a log is the beginning of this one, if it is there.

@@ -205,7 +205,6 @@ impl<'a> Teller<'a> {
                     ),
                 );
             }
-            OpenFault::NoRoom => self.tell(Place::Log, &"no engine has made such a log"),
             OpenFault::NoLog => self.tell(Place::Log, &"there is no log"),
             OpenFault::NotClosed => self.tell(
                 Place::Folder,
