@@ -79,9 +79,7 @@ fn names(txn: Option<TxnNo>, page: Option<PageNo>, entry: &Record) -> bool
             ..
         } => is_txn(txn, own) && is_page(page, changed),
         Record::ChkptPages { pages, .. } => txn.is_none() && is_among(page, pages),
-        Record::BeginChkpt { .. } | Record::EndChkpt { .. } | Record::Extend { .. } => {
-            txn.is_none() && page.is_none()
-        }
+        _ => txn.is_none() && page.is_none(),
     }
 }
 

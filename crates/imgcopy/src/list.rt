@@ -180,7 +180,7 @@ fn length_of(rt: &HostRuntime, name: &str, notes: &Notes) -> Option<u64> {
     }
 }
 
-fn tell_irregular(rt: &impl Eprint, name: &str) {
+pub fn tell_irregular(rt: &impl Eprint, name: &str) {
     let name = Escaped(name);
     let _ = rt.eprintln(&ViewFault::ReadFault);
     let _ = eprintln!(rt; "imgcopy: {name}: this is no regular file");
@@ -239,7 +239,8 @@ fn is_log_right(
     false
 }
 
-fn is_irregular(rt: &HostRuntime, name: &str) -> bool {
+/// Whether what stands at this place is no regular file: of a pipe an open may never end.
+pub fn is_irregular(rt: &HostRuntime, name: &str) -> bool {
     match fs::metadata(rt, name) {
         Ok(there) => !there.is_file(),
         Err(_) => false,

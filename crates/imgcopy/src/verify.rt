@@ -1,6 +1,6 @@
 //! The command `verify`.
 
-use crate::list::{header_of, ids_in, written};
+use crate::list::{header_of, ids_in, is_irregular, written};
 use crate::manifests::manifest_for;
 use checked_files::{Known, ManifestUse, ReadFile, known_file};
 use copy_audit::{Sound, Unsound};
@@ -221,7 +221,7 @@ fn is_master_right(rt: &HostRuntime, folder: &str, text: &mut String) -> Result<
     };
     let log = format!(in rt.alloc(); "{folder}/log")?;
     let master = format!(in rt.alloc(); "{folder}/master")?;
-    if is_no_file(rt, log.as_str()) || is_no_file(rt, master.as_str()) {
+    if is_irregular(rt, log.as_str()) || is_irregular(rt, master.as_str()) {
         text.push_str("master: E33 ReadFault\n")?;
         return Ok(false);
     }
@@ -232,14 +232,6 @@ fn is_master_right(rt: &HostRuntime, folder: &str, text: &mut String) -> Result<
             text.push_str(line.as_str())?;
             Ok(false)
         }
-    }
-}
-
-/// Whether what stands at this place is no regular file: of a pipe an open may never end.
-fn is_no_file(rt: &HostRuntime, place: &str) -> bool {
-    match fs::metadata(rt, place) {
-        Ok(there) => !there.is_file(),
-        Err(_) => false,
     }
 }
 
@@ -259,7 +251,7 @@ fn is_copy_sound(
         return Ok(false);
     }
     let log = format!(in alloc; "{folder}/log")?;
-    if is_no_file(rt, log.as_str()) {
+    if is_irregular(rt, log.as_str()) {
         let line = format!(in alloc; "copy {id}: E33 ReadFault\n")?;
         text.push_str(line.as_str())?;
         return Ok(false);

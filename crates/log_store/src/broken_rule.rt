@@ -102,11 +102,7 @@ pub fn rule_of_txns(txns: &OpenTransactions, next: &Record) -> Option<BrokenRule
         Record::ChkptTxns { txn, .. } if !txns.may_note(next) => {
             Some(BrokenRule::NotAsRecorded { txn })
         }
-        Record::BeginChkpt { .. }
-        | Record::ChkptPages { .. }
-        | Record::ChkptTxns { .. }
-        | Record::EndChkpt { .. }
-        | Record::Extend { .. } => None,
+        _ => None,
     }
 }
 

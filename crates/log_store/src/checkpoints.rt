@@ -123,13 +123,7 @@ impl Checkpoints {
             }
             Record::ChkptTxns { begin, txn, .. } => self.may_add_txn(begin, txn),
             Record::EndChkpt { begin, redo, .. } => self.may_close(txns, begin, redo),
-            Record::Begin { .. }
-            | Record::Update { .. }
-            | Record::Comp { .. }
-            | Record::Commit { .. }
-            | Record::Abort { .. }
-            | Record::End { .. }
-            | Record::Extend { .. } => true,
+            _ => true,
         }
     }
 
@@ -224,13 +218,7 @@ impl Checkpoints {
                 }
                 return ended;
             }
-            Record::Begin { .. }
-            | Record::Update { .. }
-            | Record::Comp { .. }
-            | Record::Commit { .. }
-            | Record::Abort { .. }
-            | Record::End { .. }
-            | Record::Extend { .. } => {}
+            _ => {}
         }
         Ok(())
     }

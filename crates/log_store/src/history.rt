@@ -233,17 +233,7 @@ fn rule_of_pages(pages: &[Page], next: &Record) -> Option<BrokenRule>
             let present = pages.len();
             Some(BrokenRule::NotLarger { given, present })
         }
-        Record::Update { .. }
-        | Record::Begin { .. }
-        | Record::Comp { .. }
-        | Record::Commit { .. }
-        | Record::Abort { .. }
-        | Record::End { .. }
-        | Record::BeginChkpt { .. }
-        | Record::ChkptPages { .. }
-        | Record::ChkptTxns { .. }
-        | Record::EndChkpt { .. }
-        | Record::Extend { .. } => None,
+        _ => None,
     }
 }
 
@@ -260,19 +250,6 @@ fn names_number_on(pages: &[Page], next: &Record) -> bool
             change: Change::Set { before, .. },
             ..
         } => pages[page.0 as usize].slots[slot.0 as usize] == before,
-        Record::Update {
-            change: Change::Add { .. },
-            ..
-        }
-        | Record::Begin { .. }
-        | Record::Comp { .. }
-        | Record::Commit { .. }
-        | Record::Abort { .. }
-        | Record::End { .. }
-        | Record::BeginChkpt { .. }
-        | Record::ChkptPages { .. }
-        | Record::ChkptTxns { .. }
-        | Record::EndChkpt { .. }
-        | Record::Extend { .. } => true,
+        _ => true,
     }
 }

@@ -82,10 +82,7 @@ fn note(known: &mut Vec<OpenTxn>, next: &Record) -> Result<(), AllocError>
             take_out(known, txn);
             Ok(())
         }
-        Record::BeginChkpt { .. }
-        | Record::ChkptPages { .. }
-        | Record::EndChkpt { .. }
-        | Record::Extend { .. } => Ok(()),
+        _ => Ok(()),
     }
 }
 

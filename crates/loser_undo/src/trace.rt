@@ -51,14 +51,7 @@ fn way_back(met: &Record) -> Option<Lsn>
     match *met {
         Record::Update { prev, .. } | Record::Abort { prev, .. } => Some(prev),
         Record::Comp { undo_next, .. } => Some(undo_next),
-        Record::Begin { .. }
-        | Record::Commit { .. }
-        | Record::End { .. }
-        | Record::BeginChkpt { .. }
-        | Record::ChkptPages { .. }
-        | Record::ChkptTxns { .. }
-        | Record::EndChkpt { .. }
-        | Record::Extend { .. } => None,
+        _ => None,
     }
 }
 
@@ -84,16 +77,7 @@ fn keep_change(found: &mut Vec<Pending>, met: &Record) -> Result<(), AllocError>
                 change,
             }))?;
         }
-        Record::Begin { .. }
-        | Record::Comp { .. }
-        | Record::Commit { .. }
-        | Record::Abort { .. }
-        | Record::End { .. }
-        | Record::BeginChkpt { .. }
-        | Record::ChkptPages { .. }
-        | Record::ChkptTxns { .. }
-        | Record::EndChkpt { .. }
-        | Record::Extend { .. } => {}
+        _ => {}
     }
     Ok(())
 }
@@ -142,33 +126,12 @@ fn before_comp(met: &Record) -> Option<Lsn>
 {
     match *met {
         Record::Comp { prev, .. } => Some(prev),
-        Record::Begin { .. }
-        | Record::Update { .. }
-        | Record::Commit { .. }
-        | Record::Abort { .. }
-        | Record::End { .. }
-        | Record::BeginChkpt { .. }
-        | Record::ChkptPages { .. }
-        | Record::ChkptTxns { .. }
-        | Record::EndChkpt { .. }
-        | Record::Extend { .. } => None,
+        _ => None,
     }
 }
 
 fn is_abort(met: &Record) -> bool
     ensures { result ≡ is_abort met.now }
 {
-    match *met {
-        Record::Abort { .. } => true,
-        Record::Begin { .. }
-        | Record::Update { .. }
-        | Record::Comp { .. }
-        | Record::Commit { .. }
-        | Record::End { .. }
-        | Record::BeginChkpt { .. }
-        | Record::ChkptPages { .. }
-        | Record::ChkptTxns { .. }
-        | Record::EndChkpt { .. }
-        | Record::Extend { .. } => false,
-    }
+    matches!(*met, Record::Abort { .. })
 }

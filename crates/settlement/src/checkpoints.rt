@@ -72,19 +72,7 @@ fn is_begin(record: &Record) -> bool
     ensures yes { result ≡ true → IsBegin «record».now }
     ensures no { result ≡ false → ¬ IsBegin «record».now }
 {
-    match *record {
-        Record::BeginChkpt { .. } => true,
-        Record::Begin { .. }
-        | Record::Update { .. }
-        | Record::Comp { .. }
-        | Record::Commit { .. }
-        | Record::Abort { .. }
-        | Record::End { .. }
-        | Record::ChkptPages { .. }
-        | Record::ChkptTxns { .. }
-        | Record::EndChkpt { .. }
-        | Record::Extend { .. } => false,
-    }
+    matches!(*record, Record::BeginChkpt { .. })
 }
 
 /// Whether the forced record at an LSN is the EndChkpt of this checkpoint.
@@ -112,15 +100,6 @@ fn is_end_of(begin: Lsn, redo: Lsn, record: &Record) -> bool
             redo: r,
             ..
         } => b == begin && r == redo,
-        Record::Begin { .. }
-        | Record::Update { .. }
-        | Record::Comp { .. }
-        | Record::Commit { .. }
-        | Record::Abort { .. }
-        | Record::End { .. }
-        | Record::BeginChkpt { .. }
-        | Record::ChkptPages { .. }
-        | Record::ChkptTxns { .. }
-        | Record::Extend { .. } => false,
+        _ => false,
     }
 }

@@ -106,16 +106,7 @@ fn is_record_of(receipt: &Receipt, record: &Record) -> bool
                 change,
                 ..
             } => t == txn && p == page && s == slot && is_change_of(kind, number, &change),
-            Record::Begin { .. }
-            | Record::Comp { .. }
-            | Record::Commit { .. }
-            | Record::Abort { .. }
-            | Record::End { .. }
-            | Record::BeginChkpt { .. }
-            | Record::ChkptPages { .. }
-            | Record::ChkptTxns { .. }
-            | Record::EndChkpt { .. }
-            | Record::Extend { .. } => false,
+            _ => false,
         },
         Receipt::Stepped { txn, step, .. } => is_step_of(txn, step, record),
         Receipt::Read { .. } => false,
@@ -145,12 +136,7 @@ fn is_step_of(txn: TxnNo, step: TxnStep, record: &Record) -> bool
         Record::Commit { txn: t, .. } => t == txn && step == TxnStep::Commit,
         Record::Abort { txn: t, .. } => t == txn && step == TxnStep::Abort,
         Record::End { txn: t, .. } => t == txn && step == TxnStep::End,
-        Record::Update { .. }
-        | Record::BeginChkpt { .. }
-        | Record::ChkptPages { .. }
-        | Record::ChkptTxns { .. }
-        | Record::EndChkpt { .. }
-        | Record::Extend { .. } => false,
+        _ => false,
     }
 }
 
