@@ -9,7 +9,7 @@
 set -u
 cd "$(dirname "$0")/.." || exit 1
 . tools/lanes.sh
-passed=0 failed=0 skipped=0 phases=() sampled=8 counts_of_rt='^([0-9]+) passed, ([0-9]+) failed$'
+passed=0 failed=0 skipped=0 phases=() sampled=8 are_kept= counts_of_rt='^([0-9]+) passed, ([0-9]+) failed$'
 
 # phase NAME COMMAND..: runs it, and notes how long it took.
 phase() {
@@ -153,13 +153,20 @@ bank_disks() {
     python3 -m checks.bank_disks "$bank" "$program"
 }
 
-# The gate has proved all crates on this machine, so these are tried in minutes; where it has kept nothing, they would
-# take as long as the gate. Which ones they are hangs on the commit's hash, so that over time each is tried.
+# Whether rt has kept what the gate has proved, as some of its versions do: a root of its own shows it.
+are_proofs_kept() {
+    [ -n "$are_kept" ] || { python3 -m checks.kv --can && are_kept=yes || are_kept=no; }
+    [ "$are_kept" = yes ]
+}
+
+# Where rt keeps what the gate has proved, these are tried in minutes; elsewhere they would take as long as the gate.
+# Which ones they are hangs on the commit's hash, so that over time each is tried.
 run_sample() {
     local why=
     command -v python3 > /dev/null || why="python3 is missing"
     ! grep -aEq '^rt: note: .*(so nothing is|came after is not|what this run proved.* is not) kept' build/gate.log ||
         why="rt has not kept the gate's proofs"
+    [ -n "$why" ] || are_proofs_kept || why="rt has not kept the gate's proofs"
     [ "$failed" -eq 0 ] || why="something failed before"
     [ -z "$why" ] || { skip sample "$why"; return; }
     python3 tools/plants.py --sample "$sampled" --left-out 2>&1 | tee build/sample.log
@@ -217,7 +224,7 @@ run_checks() {
         check bank_memory "$program" rt python3 rustc -- bank_memory
         check bank_threads "$program" rt python3 rustc -- bank_threads
         check bank_rot "$program" rt python3 -- bank_rot
-        if python3 -m checks.kv --can; then
+        if are_proofs_kept; then
             check kv "$program" rt python3 rustc -- kv
         else
             skip kv "rt has not kept the proofs of the crates on this machine"
