@@ -20,7 +20,7 @@ use Rattle.log_rules.specs.Table.{Table, table_of}
 use Rattle.log_store.specs.WrittenLog.{WrittenLog}
 use Rattle.fuzzy_ckpt.proofs.Public.{open_same}
 use Rattle.txn_table.specs.declared.returns.Return.{Return}
-use Rattle.txn_table.specs.Returns.{returns_of}
+use Rattle.txn_table.specs.Returns.{HasReturns}
 use Rattle.engine_rules.specs.EngineState.{EngineState, IsFit, with_appended, log_of}
 use Rattle.engine_rules.specs.EngineView.{IsConsistent, MediaView, engine_view}
 use Rattle.engine_rules.specs.EngineState.{with_page}
@@ -54,7 +54,7 @@ session_later s r left fit same =
 pub kept_next : {S : Type 0} (stored : S → List Page) (s : EngineState) (old new : Table) (pool after : PoolView S)
     (ckpts : MediaView) (returns : List Return) (r : Record) → IsConsistent stored s old pool ckpts → Comes s r
     → IfSome (change_of r) (λ c. IsResident s.resident c.page) → new ≡ table_of (s.log ++ r ∷ [])
-    → IsPoolOf stored (with_next (log_of s) (r ∷ [])) after → returns ≡ returns_of (s.log ++ r ∷ [])
+    → IsPoolOf stored (with_next (log_of s) (r ∷ [])) after → HasReturns (s.log ++ r ∷ []) returns
     → IsConsistent stored (with_appended s r) new after (record ckpts { returns = returns })
 kept_next stored s old new pool after ckpts returns r kept come there noted changed back =
     let fit = fit_appended s r kept.fit come there in
@@ -98,7 +98,7 @@ pub after_fetch : {S : Type 0} (stored : S → List Page) (s came new : EngineSt
     → IsConsistent stored s old pool ckpts → Comes s r
     → p < volume_pages s → IfSome (change_of r) (λ c. c.page ≡ p) → came ≡ with_page s p → IsPoolOf stored (log_of s) fetched
     → table ≡ table_of (s.log ++ r ∷ []) → IsPoolOf stored (with_next (log_of s) (r ∷ [])) after
-    → returns ≡ returns_of (s.log ++ r ∷ [])
+    → HasReturns (s.log ++ r ∷ []) returns
     → new ≡ with_appended came r → IsConsistent stored new table after (record ckpts { returns = returns })
 after_fetch stored s came new p old table pool fetched after ckpts returns r kept come within changes is of_log noted
     changed back next =

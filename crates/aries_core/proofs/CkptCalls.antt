@@ -50,7 +50,9 @@ use Rattle.buffer_pool.proofs.Public.{none_changes}
 use Rattle.engine_rules.proofs.Public.{PassesPages, PassesTxns, TakesPages, TakesTxn, WasDone}
 use Rattle.engine_rules.proofs.Public.{at_left, ckpt_end_is, gather_case, pages_record, txn_entry, with_pages, with_txn}
 use Rattle.engine_rules.proofs.Public.{ckpt_begin_passes, ckpt_end_passes, gather_passes}
-use Rattle.aries_core.proofs.Returned.{none_of_checkpoint, returns_stay}
+use Rattle.txn_table.specs.Returns.{HasReturns}
+use Rattle.txn_table.proofs.Public.{returns_stay}
+use Rattle.aries_core.proofs.Returned.{none_of_checkpoint}
 
 -- what a call says of the state after it: it is a step, and the engine is in step with its log
 pub record CkptCalled {S D : Type 0} (stored : S → List Page) (it new : WrittenLog D)
@@ -84,8 +86,9 @@ with_record stored it new table pool ckpts after call reply r kept fits step log
         table_of_log = rw logged (table_kept it.log.records r table of may few kept.table_of_log);
         pool_of_log = rw logged (pool_kept stored it.log r pool of valid kept.pool_of_log);
         session_of_log = session;
-        returns_of_log = rw logged (alike ∙ kept.returns_of_log
-            ∙ sym (returns_stay it.log.records r (none_of_checkpoint it.log.records r of)));
+        returns_of_log = rw logged (subst (HasReturns (it.log.records ++ r ∷ [])) (sym alike)
+            (returns_stay it.log.records r ckpts.returns (none_of_checkpoint it.log.records r of) may
+            kept.returns_of_log));
       };
     }
 
@@ -223,7 +226,7 @@ gathered_kept stored it new table pool ckpts after reply None kept none step mad
         table_of_log = rw logged kept.table_of_log;
         pool_of_log = rw logged kept.pool_of_log;
         session_of_log = session;
-        returns_of_log = rw logged (alike ∙ kept.returns_of_log);
+        returns_of_log = rw logged (subst (HasReturns it.log.records) (sym alike) kept.returns_of_log);
       };
     }
 gathered_kept stored it new table pool ckpts after reply (Some r) kept none step made logged session alike =

@@ -17,7 +17,7 @@ use Rattle.log_records.specs.Log.{Log, with_next}
 use Rattle.log_records.proofs.Public.{past_is_formatted}
 use Rattle.log_rules.specs.Table.{Table}
 use Rattle.log_store.specs.WrittenLog.{WrittenLog}
-use Rattle.txn_table.proofs.Public.{returns_kept, table_kept}
+use Rattle.txn_table.proofs.Public.{returns_stay, table_kept}
 use Rattle.buffer_pool.specs.Pool.{IsPoolOf, PageState, PoolView, grown_states, unwritten, writing_of, written_of}
 use Rattle.buffer_pool.proofs.Public.{length-extended, map-extended}
 use Rattle.buffer_pool.proofs.Public.{none_changes}
@@ -42,7 +42,7 @@ kept_extended stored s table pool after media count kept none is =
       pool_of_log = is;
       session_of_log = kept.session_of_log
           ∙ sym (session_later s (extend_record s count) s.left kept.fit (open_grown s.log (end s) count));
-      returns_of_log = kept.returns_of_log ∙ sym (returns_kept s.log (end s) count);
+      returns_of_log = returns_stay s.log (extend_record s count) media.returns refl tt kept.returns_of_log;
     }
 
 -- ---- the pages of the volume, as they are stored

@@ -1,18 +1,11 @@
--- The Comps that go back to savepoints, behind one record more that is none.
-use Rattle.std.proofs.Common.{◌≡◌, ◌++◌, List, [], ◌∷◌, refl, ap, ◌∙◌}
+-- The records that go back to no savepoint.
+use Rattle.std.proofs.Common.{◌≡◌, List, refl}
 use Rattle.std.specs.Prelude.{None}
-use Rattle.std.specs.Option.{option_to_list}
-use Rattle.std.proofs.lemmas.List.{append-nil}
 use Rattle.log_records.specs.declared.record.Record.{Record}
 use Rattle.log_records.specs.declared.record.Record.TheVariants.{Begin, Update, Comp, Commit, Abort, End, BeginChkpt}
 use Rattle.log_records.specs.declared.record.Record.TheVariants.{ChkptPages, ChkptTxns, EndChkpt, Extend}
 use Rattle.log_records.specs.Record.{IsOfCheckpoint}
-use Rattle.txn_table.specs.Returns.{return_of, returns_of}
-use Rattle.txn_table.proofs.Public.{returns_push}
-
-pub returns_stay : (rs : List Record) (r : Record) → return_of rs r ≡ None → returns_of (rs ++ r ∷ []) ≡ returns_of rs
-returns_stay rs r none =
-    returns_push rs r ∙ ap (λ o. returns_of rs ++ option_to_list o) none ∙ append-nil (returns_of rs)
+use Rattle.txn_table.specs.Returns.{return_of}
 
 -- no record of a checkpoint goes back
 pub none_of_checkpoint : (rs : List Record) (r : Record) → IsOfCheckpoint r → return_of rs r ≡ None

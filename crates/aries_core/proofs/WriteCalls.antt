@@ -24,7 +24,7 @@ use Rattle.copy_coverage.proofs.Public.{copied_forced}
 use Rattle.engine_rules.specs.Refusal.{refusal}
 use Rattle.engine_rules.specs.Step.{MayBeStored, Step}
 use Rattle.engine_rules.proofs.Public.{master_forced}
-use Rattle.engine_rules.proofs.Public.{fit_of_step}
+use Rattle.engine_rules.proofs.Public.{fit_of_step, room_forced}
 use Rattle.aries_core.proofs.PoolStates.{begun_is, ended_is, image_at, kept_is, repeated_is}
 use Rattle.engine_rules.proofs.Public.{write_end_passes}
 
@@ -67,7 +67,7 @@ force_kept stored it new table pool ckpts kept same no_less ends =
       fit = record {
         valid = rw same fit.valid;
         linked = rw same fit.linked;
-        room = rw same fit.room;
+        room = rw same (room_forced it.log.records it.forced_end new.forced_end no_less fit.room);
         forced = ends;
         counted = record {
           stored = omega (arith, fit.counted.stored, ap page_count same);

@@ -4,37 +4,42 @@ ghost use Rattle.std.specs.Prelude.{◌≡◌, ◌≤◌, length, IfErr, IfOk};
 ghost use Rattle.std.specs.Option.{option_map};
 ghost use Rattle.buffer_pool.specs.Pool.{IsFrameCount};
 ghost use Rattle.fuzzy_ckpt.specs.Ckpt.{gathered_ckpt};
-ghost use Rattle.fuzzy_ckpt.specs.LogCheckpoints.{IsLastPoint};
+ghost use Rattle.fuzzy_ckpt.specs.LogCheckpoints.{AreCheckpointsOf, IsLastPoint};
 ghost use Rattle.log_records.specs.Image.{redo_all};
 ghost use Rattle.log_records.specs.Log.{lsn_of, page_count};
+ghost use Rattle.log_rules.specs.Transactions.{begun};
 ghost use Rattle.log_store.specs.WrittenLog.{HoldsLog};
 ghost use Rattle.aries_core.specs.OpenCkpt.{view_of};
-ghost use Rattle.engine_rules.specs.Resumed.{IsLeftBy, MayResume, resumed_state};
+ghost use Rattle.engine_rules.specs.Resumed.{MayResume, resumed_state};
 
 use crate::engine::Engine;
 use crate::open_ckpt::OpenCkpt;
 use buffer_pool::Pool;
 use copy_vault::Vault;
-use fuzzy_ckpt::{Ckpt, Gathered, LogCheckpoints, checkpoints_of};
+use fuzzy_ckpt::{Ckpt, Gathered, LogCheckpoints};
 use log_store::{Log, LogDevice, LogImage};
 use page_core::Page;
 use page_store::PageStore;
 use std::alloc::Global;
-use txn_table::{TablesFault, tables_of};
+use txn_table::{Returns, TxnTable};
 
-/// What an older engine left: a log in which no transaction is open any more, and the image copies
-/// that are at hand.
+/// What an older engine left: a log in which no transaction is open any more, what its reader knew
+/// of it, and the image copies that are at hand.
 #[derive(Drop)]
 pub struct Legacy {
     pub log: LogImage,
+    /// Those of the log.
+    pub checkpoints: LogCheckpoints,
+    /// How many transactions began in it.
+    pub begun: u32,
     /// The copies. Each is complete or dropped.
     pub vault: Vault,
 }
 
-/// Why no engine goes on, with the store and the device that were given, as they were.
+/// Where memory was refused, and so no engine goes on: the store and the device that were given, as they
+/// were.
 #[derive(Drop)]
 pub struct NotResumed<S: PageStore, D: LogDevice> {
-    pub fault: TablesFault,
     pub store: S,
     pub device: D,
 }
@@ -46,9 +51,8 @@ impl<S: PageStore + Drop, D: LogDevice + Drop> Engine<S, D> {
     /// is open, its gather has ended, and it may be ended: each page is stored, and no transaction
     /// is open. Of the store only its count is asked, and the device is not called.
     ///
-    /// A fault comes where memory is refused, or the log lacks room: behind one of its records there
-    /// is no room to take back what is open there. No engine makes such a log. Store and device are
-    /// handed back then, and what was left is dropped.
+    /// No record is looked at again: what the reader of the log knew is taken over. An `Err` comes where
+    /// memory is refused. Store and device are handed back then, and what was left is dropped.
     pub fn resume(
         alloc: Global,
         legacy: Legacy,
@@ -59,6 +63,8 @@ impl<S: PageStore + Drop, D: LogDevice + Drop> Engine<S, D> {
     ) -> Result<Engine<S, D>, NotResumed<S, D>>
         requires frames { IsFrameCount frames }
         requires may { MayResume legacy.log legacy.vault.copies }
+        requires checkpoints { AreCheckpointsOf legacy.log legacy.checkpoints }
+        requires begun { legacy.begun ≡ length (begun legacy.log.records) }
         requires pages { pages.now ≡ redo_all legacy.log.records (page_count legacy.log) }
         requires stored { S.stored store ≡ pages.now }
         requires holds { HoldsLog D.bytes legacy.log device }
@@ -70,35 +76,25 @@ impl<S: PageStore + Drop, D: LogDevice + Drop> Engine<S, D> {
             IsLastPoint legacy.log legacy.log.records it.state.master) }
         ensures store { IfOk result (λ it. it.store ≡ store) }
         ensures device { IfOk result (λ it. it.device ≡ device) }
-        ensures fault { IfErr result (λ e. IsLeftBy legacy.log e.fault) }
         ensures untouched { IfErr result (λ e. (e.store ≡ store) × (e.device ≡ device)) }
     {
-        let Legacy { log, vault } = legacy;
-        let (txns, returns) = match tables_of(alloc, log.records()) {
-            Ok(tables) => tables,
-            Err(fault) => {
-                return Err(NotResumed {
-                    fault,
-                    store,
-                    device,
-                });
-            }
-        };
+        let Legacy {
+            log,
+            checkpoints,
+            begun,
+            vault,
+        } = legacy;
+        // A log has no more records than it may have, which one of its calls tells.
+        let _records = log.records();
         let pool = match Pool::resume(alloc, store, pages, frames) {
             Ok(pool) => pool,
-            Err((_, store)) => {
-                return Err(NotResumed {
-                    fault: TablesFault::OutOfMemory,
-                    store,
-                    device,
-                });
-            }
+            Err((_, store)) => return Err(NotResumed { store, device }),
         };
-        let LogCheckpoints { last, open } = checkpoints_of(&log);
+        let LogCheckpoints { last, open } = checkpoints;
         Ok(Engine {
             log: Log::resume(log, device),
-            txns,
-            returns,
+            txns: TxnTable::ended(alloc, begun),
+            returns: Returns::new(alloc),
             pool,
             master: last,
             session: session_of(open),

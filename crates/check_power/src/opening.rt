@@ -13,7 +13,7 @@ use crate::wrong::Wrong;
 use aries_core::{Engine, Setup};
 use engine_restart::{Restarted, log_in, restart, store_of};
 use file_devices::FileLog;
-use fuzzy_ckpt::checkpoints_of;
+use fuzzy_ckpt::LogCheckpoints;
 use log_front::Front;
 use log_store::Master;
 use page_core::{MAX_PAGES, zeros};
@@ -125,7 +125,7 @@ fn cut_off(alloc: Global, device: FileLog<Drive>, chance: &mut Chance) -> Result
 
 /// The last complete checkpoint of a log.
 fn master_of(front: &Front) -> Option<Master> {
-    match checkpoints_of(front.log()).last {
+    match LogCheckpoints::of(front.analysis()).last {
         Some(point) => Some(Master {
             begin: point.begin,
             end: point.end,

@@ -19,9 +19,11 @@ pub record RetiredView : Type 0 where
   pub master : Option Master
   pub copies : List CopyState
 
--- there is room in a log to take back what is open at any place of it
-abbrev pub HasRoomForUndo : List Record → Type 0
-HasRoomForUndo rs = (n : ℕ) → n ≤ length rs → length (take n rs) + owed (take n rs) ≤ MAX_RECORDS
+-- there is room in a log to take back what is open at any place of it where a crash may end it: there
+-- all forced records are before the place
+abbrev pub HasRoomForUndo : List Record → ℕ → Type 0
+HasRoomForUndo rs forced_end =
+    (n : ℕ) → n ≤ length rs → forced_end ≤ lsn_of n → length (take n rs) + owed (take n rs) ≤ MAX_RECORDS
 
 -- the master record names a complete checkpoint of the log whose end is forced
 pub record NamesCheckpoint (rs : List Record) (forced_end : ℕ) (master : Master) : Type 0 where
@@ -32,7 +34,7 @@ pub record NamesCheckpoint (rs : List Record) (forced_end : ℕ) (master : Maste
 pub record IsRetired (it : RetiredView) : Type 0 where
   pub valid : IsLog it.log
   pub linked : IsLinked it.log.records
-  pub room : HasRoomForUndo it.log.records
+  pub room : HasRoomForUndo it.log.records it.forced_end
   pub forced : (k : ℕ) × (k ≤ length it.log.records) × (it.forced_end ≡ lsn_of k)
   pub master : IfSome it.master (NamesCheckpoint it.log.records it.forced_end)
   pub copies : AreRestorable it.log it.forced_end it.copies

@@ -1,5 +1,5 @@
 -- Where a copy of an older life began.
-use Rattle.std.proofs.Common.{◌≡◌, ◌↔◌, ◌<◌, true, ℕ, length, refl, ap, sym, subst, arith, ◌∙◌}
+use Rattle.std.proofs.Common.{◌≡◌, ◌↔◌, ◌<◌, Bool, true, ℕ, length, refl, ap, sym, subst, arith, ◌∙◌}
 use Rattle.std.specs.Prelude.{Option, Some, None, is_some}
 use Rattle.page_core.specs.PageCounts.{count_below}
 use Rattle.log_records.specs.Log.{IsLog, Log, counts_of, lsn_of}
@@ -22,6 +22,12 @@ checkpoint_there log (Some point) linked last = (
   λ e. (point.begin, point.end, complete-of_end log.records point.begin point.end point.redo linked last.0.ended),
   λ has. refl,
 )
+
+-- and it is told whether it is there
+pub last_there : (log : Log) (last : Option Point) (b : Bool) → b ≡ is_some last → IsLinked log.records
+    → IsLastPoint log log.records last → (b ≡ true) ↔ IsCheckpointed log
+last_there log last b is linked of_log =
+    subst (λ (x : Bool). (x ≡ true) ↔ IsCheckpointed log) (sym is) (checkpoint_there log last linked of_log)
 
 pub begins : (log : Log) (copy : CopyView) (begin redo end pages below : ℕ) → IsLog log → begin ≡ copy.begin
     → redo ≡ copy.redo → IsPoint begin redo → begin < end → end ≡ lsn_of (length log.records)

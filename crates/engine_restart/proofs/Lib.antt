@@ -8,4 +8,5 @@ pub mod Lives
 pub mod LogFiles
 pub mod Restarts
 pub mod Stands
+pub mod UndoneFacts
 pub mod UndoneParts

@@ -66,7 +66,7 @@ answered_kept life fit is = λ k d lt.
 room_left : (life : Life) → IsFit life.lost → IsLife life → IsLog (undone_log life.left)
 room_left life fit is =
     let rs = life.lost.log in
-    let room = fit.room is.kept.count is.kept.within in
+    let room = fit.room is.kept.count is.kept.within is.kept.forced in
     undone_fits life.left (valid_left life fit is) (linked_left life fit is)
     (subst (λ (l : Log). length l.records + owed l.records ≤ MAX_RECORDS) (sym is.kept.made) room)
 

@@ -6,10 +6,13 @@ use Rattle.page_core.specs.declared.page.Page.{Page}
 use Rattle.log_records.specs.Image.{redo_all}
 use Rattle.log_records.specs.Log.{Log, lsn_of, page_count, with_next}
 use Rattle.log_records.specs.declared.record.Record.{Record}
+use Rattle.log_rules.specs.Transactions.{begun}
 use Rattle.log_store.specs.Stores.{ForcesBetween, StoreCall, SyncCall}
 use Rattle.log_store.specs.WrittenLog.{HoldsLog, WrittenLog}
 use Rattle.loser_undo.specs.Undo.{after_undo}
 use Rattle.copy_vault.specs.Vault.{CopyState}
+use Rattle.fuzzy_ckpt.specs.declared.log_checkpoints.LogCheckpoints.{LogCheckpoints}
+use Rattle.fuzzy_ckpt.specs.LogCheckpoints.{AreCheckpointsOf}
 use Rattle.engine_rules.specs.Resumed.{MayResume}
 use Rattle.engine_restart.specs.declared.fault.RestartFault.{RestartFault}
 use Rattle.engine_restart.specs.declared.fault.RestartFault.TheVariants.{LogFault, LogFull}
@@ -50,6 +53,12 @@ pub record RestartedView : Type 0 where
 pub record IsRestarted (it : RestartedView) : Type 0 where
   pub may : MayResume it.log it.copies
   pub pages : it.pages ≡ redo_all it.log.records (page_count it.log)
+
+-- and these are the checkpoints of its log, in which so many transactions began
+pub record IsReady (it : RestartedView) (known : LogCheckpoints) (count : ℕ) : Type 0 where
+  pub restarted : IsRestarted it
+  pub checkpoints : AreCheckpointsOf it.log known
+  pub begun : count ≡ length (begun it.log.records)
 
 -- why a restart stops, and what it has made of the device: memory ran out, or the log lacks room for
 -- undo's records, and the device was not called; or it failed

@@ -31,7 +31,8 @@ impl Restarted {
         ensures back { IfErr result (λ e. e.0 ≡ copy) }
         ensures why { IfErr result (λ e. IsNotAdded self.old.log self.old.copies copy e.1) }
     {
-        if let Err(fault) = check(alloc, &self.log, &self.vault, &copy) {
+        let last = &self.checkpoints.last;
+        if let Err(fault) = check(alloc, &self.log, last, &self.vault, &copy) {
             return Err((copy, fault));
         }
         match self.vault.add(copy) {

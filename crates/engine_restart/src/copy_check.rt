@@ -3,20 +3,21 @@
 ghost use Rattle.std.specs.Prelude.{◌≡◌, ◌↔◌, ◌++◌, [], ◌∷◌, IfErr, IfOk, IfSome, IsTrue, None, OnOk, map};
 ghost use Rattle.std.specs.List.{range_with_len};
 ghost use Rattle.copy_coverage.specs.Copied.{IsPoint};
+ghost use Rattle.fuzzy_ckpt.specs.LogCheckpoints.{IsLastPoint};
 ghost use Rattle.image_copies.specs.Chain.{content};
 ghost use Rattle.image_copies.specs.Copy.{IsComplete};
 ghost use Rattle.log_rules.specs.Linked.{IsLinked};
 ghost use Rattle.log_records.specs.Log.{IsLog, page_count};
 ghost use Rattle.log_records.specs.Record.{IsLsn};
 ghost use Rattle.page_redo.specs.PageRecords.{numbers_on};
-ghost use Rattle.engine_restart.specs.Added.{AreSoundBelow, BeginsIn, IsCheckpointed, IsLeastIn};
+ghost use Rattle.engine_restart.specs.Added.{AreSoundBelow, BeginsIn, IsLeastIn};
 ghost use Rattle.engine_restart.specs.Added.{IsNotOf, MayAdd, StandsBehind};
 ghost use Rattle.engine_restart.specs.Chained.{IsNoChain, members};
 
 use crate::add_fault::AddCopyFault;
 use copy_audit::is_sound;
 use copy_vault::{AddFault, Chain, CompleteCopy, CopyFault, CopyKind, Vault};
-use fuzzy_ckpt::checkpoints_of;
+use fuzzy_ckpt::Point;
 use log_store::LogImage;
 use page_core::{LSN_STEP, Lsn, Page, PageNo};
 use page_redo::{PageRecords, by_page};
@@ -36,19 +37,17 @@ fn is_point(begin: Lsn, redo: Lsn) -> bool
     is_lsn(begin) && is_lsn(redo) && redo <= begin
 }
 
-/// Whether some checkpoint of a log is complete.
-fn has_checkpoint(log: &LogImage) -> bool
-    requires linked { IsLinked log.now.records }
-    ensures { IsTrue result ↔ IsCheckpointed log.now }
-{
-    checkpoints_of(log).last.is_some()
-}
-
 /// Whether the copy may have begun in this log: it names a place in it, has as many pages as the
 /// volume had there, and some checkpoint is complete.
-fn begins_in(alloc: Global, log: &LogImage, copy: &CompleteCopy) -> Result<bool, AllocError>
+fn begins_in(
+    alloc: Global,
+    log: &LogImage,
+    last: &Option<Point>,
+    copy: &CompleteCopy,
+) -> Result<bool, AllocError>
     requires valid { IsLog log.now }
     requires linked { IsLinked log.now.records }
+    requires last { IsLastPoint log.now log.now.records last.now }
     ensures { IfOk result (λ begins. IsTrue begins ↔ BeginsIn log.now copy.now) }
 {
     let begin = copy.begin();
@@ -59,7 +58,7 @@ fn begins_in(alloc: Global, log: &LogImage, copy: &CompleteCopy) -> Result<bool,
     if copy.pages() != counts.below(begin) {
         return Ok(false);
     }
-    Ok(has_checkpoint(log))
+    Ok(last.is_some())
 }
 
 /// The chain of the copies that a copy stands on; None where it is a full one.
@@ -117,21 +116,24 @@ fn first_unsound(
     None
 }
 
-/// Whether a copy is one of this log, behind the copies of the vault.
+/// Whether a copy is one of this log, whose last complete checkpoint this is, behind the copies of the
+/// vault.
 pub(crate) fn check(
     alloc: Global,
     log: &LogImage,
+    last: &Option<Point>,
     vault: &Vault,
     copy: &CompleteCopy,
 ) -> Result<(), AddCopyFault>
     requires linked { IsLinked log.now.records }
+    requires last { IsLastPoint log.now log.now.records last.now }
     ensures ok { OnOk result (MayAdd log.now vault.now.copies copy.now) }
     ensures whole { IsComplete copy.now.kind copy.now.pages }
     ensures err { IfErr result (IsNotOf log.now vault.now.copies copy.now) }
     ensures valid { IsLog log.now }
 {
     let (kind, count) = (copy.kind(), log.page_count());
-    if !begins_in(alloc, log, copy)? {
+    if !begins_in(alloc, log, last, copy)? {
         return Err(AddCopyFault::OfOtherLog);
     }
     let older = older(alloc, vault, kind)?;

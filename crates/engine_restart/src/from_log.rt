@@ -11,6 +11,7 @@ use crate::fault::RestartFault;
 use crate::restarted::Restarted;
 use crate::undo_on_log::take_back;
 use copy_vault::Vault;
+use fuzzy_ckpt::LogCheckpoints;
 use log_front::Front;
 use log_store::LogDevice;
 use std::alloc::Global;
@@ -41,10 +42,15 @@ pub fn restart<D: LogDevice + Drop>(
     ensures stands { IfErr result (λ e.
         KeepsFirst (lsn_of (length front.log.records)) (D.bytes device) (D.bytes e.1)) }
 {
+    let found = front.analysis();
+    let checkpoints = LogCheckpoints::of(found);
+    let begun = found.txns.begun();
     let (log, pages, device) = take_back(front, device)?;
     let restarted = Restarted {
         log,
         pages,
+        checkpoints,
+        begun,
         vault: Vault::new(alloc),
     };
     Ok((restarted, device))

@@ -5,10 +5,11 @@ ghost use Rattle.buffer_pool.specs.Pool.{IsFrameCount};
 ghost use Rattle.fuzzy_ckpt.specs.LogCheckpoints.{IsLastPoint};
 ghost use Rattle.engine_restart.specs.Lives.{GoesOnFrom};
 ghost use Rattle.engine_restart.specs.Restart.{HasLasting, IsRestarted};
-ghost use Rattle.engine_rules.specs.Resumed.{IsLeftBy, MayResume, resumed_state};
+ghost use Rattle.engine_rules.specs.Resumed.{resumed_state};
 
 use aries_core::{Engine, Legacy, NotResumed};
 use copy_vault::Vault;
+use fuzzy_ckpt::LogCheckpoints;
 use log_records::Record;
 use log_store::{LogDevice, LogImage};
 use page_core::Page;
@@ -22,11 +23,15 @@ use std::marker::Model;
 pub struct Restarted {
     pub(crate) log: LogImage,
     pub(crate) pages: Vec<Page>,
+    /// Those of the log, as its reader knew them: undo changes none.
+    pub(crate) checkpoints: LogCheckpoints,
+    /// How many transactions began in the log.
+    pub(crate) begun: u32,
     pub(crate) vault: Vault,
 }
 
 impl Model for Restarted {
-    ghost use Rattle.engine_restart.specs.Restart.{IsRestarted, RestartedView};
+    ghost use Rattle.engine_restart.specs.Restart.{IsReady, RestartedView};
 
     ghost Value = { RestartedView };
 
@@ -36,11 +41,11 @@ impl Model for Restarted {
       copies = it.vault.copies;
     } };
 
-    ghost invariant = { λ it. IsRestarted (record {
+    ghost invariant = { λ it. IsReady (record {
       log = it.log;
       pages = it.pages.items;
       copies = it.vault.copies;
-    }) };
+    }) it.checkpoints it.begun };
 }
 
 impl Restarted {
@@ -94,11 +99,21 @@ impl Restarted {
         ensures store { IfOk result (λ it. it.store ≡ store) }
         ensures device { IfOk result (λ it. it.device ≡ device) }
         ensures goes_on { IfOk result (λ it. GoesOnFrom self.log it.state) }
-        ensures fault { IfErr result (λ e. IsLeftBy self.log e.fault) }
         ensures untouched { IfErr result (λ e. (e.store ≡ store) × (e.device ≡ device)) }
     {
-        let Restarted { log, pages, vault } = self;
-        let legacy = Legacy { log, vault };
+        let Restarted {
+            log,
+            pages,
+            checkpoints,
+            begun,
+            vault,
+        } = self;
+        let legacy = Legacy {
+            log,
+            checkpoints,
+            begun,
+            vault,
+        };
         let engine = Engine::resume(alloc, legacy, &pages, frames, store, device)?;
         // An engine is fit, which one of its calls tells.
         let _end = engine.log_end();

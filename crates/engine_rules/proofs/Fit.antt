@@ -16,7 +16,7 @@ use Rattle.std.proofs.lemmas.List.{length-replicate, length_push, take_all}
 use Rattle.std.proofs.lemmas.List.Elements.{All-head, All-nil, All-tail, All-weaker}
 use Rattle.log_records.specs.declared.limits.TheConstants.{MAX_RECORDS}
 use Rattle.log_records.specs.declared.record.Record.{Record}
-use Rattle.log_records.specs.Log.{IsPageCount, StandsAt, with_next}
+use Rattle.log_records.specs.Log.{IsPageCount, StandsAt, lsn_of, with_next}
 use Rattle.log_records.specs.PageCount.{given_count}
 use Rattle.log_records.specs.declared.page_change.PageChange.{PageChange}
 use Rattle.log_records.specs.Record.{IsOfTransaction, change_of}
@@ -44,7 +44,7 @@ use Rattle.engine_rules.proofs.CkptFits.{forced_within, made_gathered, master_no
 use Rattle.engine_rules.proofs.Follows.{made_follows}
 use Rattle.engine_rules.proofs.Forces.{Forces, all_forces}
 use Rattle.engine_rules.proofs.Growth.{extended_fit, lsn_of_formatted}
-use Rattle.engine_rules.proofs.Rooms.{room_grows, room_push}
+use Rattle.engine_rules.proofs.Rooms.{room_forced, room_grows, room_push}
 use Rattle.engine_rules.proofs.Stands.{stands}
 use Rattle.engine_rules.proofs.Gathers.{AreGathered}
 use Rattle.engine_rules.proofs.Moves.{Adds, Begun, Completes, Copied, Done, Extends, Fetched}
@@ -75,7 +75,7 @@ fit_with s r left fit come there =
     record {
       valid = valid_next (log_of s) r fit.valid few at (more-none _ r come.no_count);
       linked = linked_push s.log r fit.linked come.may_follow;
-      room = room_push s.log r fit.room come.room;
+      room = room_push s.log r s.forced_end fit.room come.room;
       forced = (fit.forced.0, omega (arith, fit.forced.1, length_push s.log r), fit.forced.2);
       counted = record {
         stored = omega (arith, fit.counted.stored, count);
@@ -157,7 +157,8 @@ fit_forced s lsn fit forces =
     master_forced (log_of s) s.stored s.forced_end lsn s.master no_less fit.master in
     let copied : AreCopied (log_of s) lsn s.stored s.copies =
     copied_forced (log_of s) s.forced_end lsn s.stored s.copies no_less fit.copied in
-    assumption (forced, counted, stable, master, copied, fit)
+    let room = room_forced s.log s.forced_end lsn no_less fit.room in
+    assumption (forced, counted, stable, master, copied, room, fit)
   where
     later : s.forced_end ≤ lsn → (o : Option Page) → IfSome o (λ image. image.lsn < s.forced_end)
         → IfSome o (λ image. image.lsn < lsn)
@@ -322,6 +323,6 @@ new_is_fit pages frames count = record {
   noted = λ id copy is. absurd (none_some copy (ap copy_in (sym (no_copy id)) ∙ is));
 }
   where
-    room_of_none : (n : ℕ) → n ≤ 0
+    room_of_none : (n : ℕ) → n ≤ 0 → lsn_of 0 ≤ lsn_of n
         → length (take n (new_state pages frames).log) + owed (take n (new_state pages frames).log) ≤ MAX_RECORDS
-    room_of_none n le = rw (take_all n (new_state pages frames).log (omega arith)) (omega arith)
+    room_of_none n le past = rw (take_all n (new_state pages frames).log (omega arith)) (omega arith)

@@ -190,7 +190,7 @@ extended_fit s count fit none =
     record {
       valid = valid_next (log_of s) r fit.valid few (stands s (event.Extend count) r fit tt makes) passes.more;
       linked = linked_push s.log r fit.linked tt;
-      room = room_push s.log r fit.room (room_grows s (event.Extend count) r fit makes);
+      room = room_push s.log r s.forced_end fit.room (room_grows s (event.Extend count) r fit makes);
       forced = (fit.forced.0, omega (arith, fit.forced.1, length_push s.log r), fit.forced.2);
       counted = counted_then s count fit none;
       resident = images_later s.log r s.resident fit.resident;

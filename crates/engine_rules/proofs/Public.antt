@@ -43,5 +43,7 @@ pub use Rattle.engine_rules.proofs.Refusals.{gather_passes, slot_passes, write_b
 pub use Rattle.engine_rules.proofs.Refusals.{write_end_passes}
 -- An engine that goes on where an older one was lost is fit.
 pub use Rattle.engine_rules.proofs.Resuming.{resumed_fit, resumed_is, session_for}
+-- The room of a log, as more of it is forced.
+pub use Rattle.engine_rules.proofs.Rooms.{room_forced}
 -- Laws of steps, over whole runs.
 pub use Rattle.engine_rules.proofs.Runs.{frames_of_run}

@@ -1,11 +1,11 @@
 -- An engine that goes on where an older one was lost is fit.
-use Rattle.std.proofs.Common.{◌≡◌, ℕ, ◌<◌, List, [], ◌∷◌, length, get_or, take, refl, sym, ap}
+use Rattle.std.proofs.Common.{◌≡◌, ℕ, ◌+◌, ◌<◌, ◌≤◌, List, [], ◌∷◌, length, get_or, take, refl, sym, ap}
 use Rattle.std.proofs.Common.{subst, ◌∙◌, arith, true, inl, inr, suc, drop, drop-cons, ◌++◌}
 use Rattle.std.specs.Prelude.{Contains, Option, Some, None, IfSome, IsSome, IsSomeAnd, is_none}
 use Rattle.std.proofs.Math.Bool.{false≢true}
 use Rattle.std.proofs.Math.ListN.{get_or-map}
 use Rattle.std.proofs.lemmas.Bool.{cases_lt}
-use Rattle.std.specs.List.{All}
+use Rattle.std.specs.List.{All, sum_by}
 use Rattle.std.specs.Option.{option_map, option_map_or}
 use Rattle.std.proofs.lemmas.List.{get_or_past, length-map, take-append-drop, take_all}
 use Rattle.std.proofs.lemmas.List.FromFn.{get_or-map-range_with_len, length-map-range_with_len}
@@ -20,7 +20,8 @@ use Rattle.log_records.specs.Record.{own_lsn}
 use Rattle.log_rules.specs.Checkpoint.{Checkpoint, IsCompleteCheckpoint, open_checkpoint}
 use Rattle.log_rules.specs.Checkpoint.{redo_point}
 use Rattle.log_rules.specs.Linked.{HasOldTxns, IsLinked, MayEnd, MayFollow}
-use Rattle.log_rules.specs.Transactions.{open_in}
+use Rattle.log_records.specs.declared.limits.TheConstants.{MAX_RECORDS}
+use Rattle.log_rules.specs.Transactions.{open_in, owed, owed_by}
 use Rattle.log_rules.proofs.Public.{end-of_complete}
 use Rattle.log_store.specs.WrittenLog.{WrittenLog}
 use Rattle.buffer_pool.specs.Pool.{PageState, PoolView, clean_pool, is_clean, stored_as_now}
@@ -205,10 +206,19 @@ writing_at log p =
       | inr past ↦ ap (λ (s : PageState). s.writing) (get_or_past states p unwritten (omega (arith, past, long)))
     ]
 
+-- nothing is open at the end of the log, and all of it is forced
+room_at_end : (log : Log) → IsLog log → open_in log.records ≡ []
+    → HasRoomForUndo log.records (lsn_of (length log.records))
+room_at_end log valid closed n le past =
+    let rs = log.records in
+    let all : take n rs ≡ rs = take_all n rs (omega (arith, past)) in
+    let none : owed rs ≡ 0 = ap (sum_by (owed_by rs)) closed in
+    let few = valid.count in
+    subst (λ (xs : List Record). length xs + owed xs ≤ MAX_RECORDS) (sym all) (omega (arith, none, few))
+
 pub resumed_fit : (log : Log) (frames : ℕ) (master : Option Point) (copies : List CopyState) → IsLog log
-    → MayResume log copies → HasRoomForUndo log.records → IsLastPoint log log.records master
-    → IsFit (resumed_state log frames master copies)
-resumed_fit log frames master copies valid may room last =
+    → MayResume log copies → IsLastPoint log log.records master → IsFit (resumed_state log frames master copies)
+resumed_fit log frames master copies valid may last =
     let pages = redo_all log.records (page_count log) in
     let pool = pool_resumed (λ (ps : List Page). ps) pages log pages frames valid refl refl in
     let long : length (stored_states pages) ≡ page_count log =
@@ -216,7 +226,7 @@ resumed_fit log frames master copies valid may room last =
     record {
       valid = valid;
       linked = may.linked;
-      room = room;
+      room = room_at_end log valid may.closed;
       forced = (length log.records, omega arith, refl);
       counted = record {
         stored = count_of log;

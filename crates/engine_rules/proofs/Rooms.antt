@@ -1,6 +1,6 @@
 -- The log has room for its records and for those that open transactions may still need.
 use Rattle.std.proofs.Common.{◌≡◌, ℕ, ◌+◌, ◌<◌, ◌≤◌, false, ◌++◌, List, [], ◌∷◌, length, refl, sym}
-use Rattle.std.proofs.Common.{subst, take, ◌∙◌, arith, inl, inr}
+use Rattle.std.proofs.Common.{subst, ◌∙◌, arith, inl, inr}
 use Rattle.std.specs.Prelude.{Some, None, Ok}
 use Rattle.std.proofs.lemmas.Bool.{cases_lt}
 use Rattle.std.proofs.lemmas.List.{length_push, take-append-le, take_all}
@@ -14,6 +14,7 @@ use Rattle.log_rules.specs.Linked.{MayFollow, number_in}
 use Rattle.log_rules.specs.Transactions.{begun_by, is_last, last_lsn, owed, txn_of}
 use Rattle.log_rules.proofs.Public.{claimed_aside, claimed_begin, claimed_push, claimed_update}
 use Rattle.log_rules.proofs.Public.{needs}
+use Rattle.copy_coverage.specs.Retired.{HasRoomForUndo}
 use Rattle.engine_calls.specs.declared.event.Event.{Event}
 use Rattle.engine_calls.specs.declared.event.Event.TheVariants as event
 use Rattle.engine_calls.specs.declared.refusal.Refusal.TheVariants.{LogFull}
@@ -39,7 +40,7 @@ room_now : (s : EngineState) → IsFit s → HasRoomFor s 0
 room_now s fit =
     let whole : length s.log + owed s.log ≤ MAX_RECORDS =
     subst (λ (rs : List Record). length rs + owed rs ≤ MAX_RECORDS) (take_all (length s.log) s.log (omega arith))
-    (fit.room (length s.log) (omega arith)) in
+    (fit.room (length s.log) (omega arith) (omega (arith, fit.forced.1, fit.forced.2))) in
     omega arith
 
 room_for : (s : EngineState) (event : Event) (r : Record) → IsFit s → Makes s event r → HasRoomFor s (needs r)
@@ -60,14 +61,16 @@ room_grows s event r fit made =
     omega (arith, claimed_push s.log r fit.linked (made_follows s event r fit made))
 
 -- so each part of the log with it has room
-pub room_push : (rs : List Record) (r : Record)
-    → ((n : ℕ) → n ≤ length rs → length (take n rs) + owed (take n rs) ≤ MAX_RECORDS)
-    → length (rs ++ r ∷ []) + owed (rs ++ r ∷ []) ≤ MAX_RECORDS → (n : ℕ) → n ≤ length (rs ++ r ∷ [])
-    → length (take n (rs ++ r ∷ [])) + owed (take n (rs ++ r ∷ [])) ≤ MAX_RECORDS
-room_push rs r room whole n le = elim (cases_lt (length rs) n) [
+pub room_push : (rs : List Record) (r : Record) (forced_end : ℕ) → HasRoomForUndo rs forced_end
+    → length (rs ++ r ∷ []) + owed (rs ++ r ∷ []) ≤ MAX_RECORDS → HasRoomForUndo (rs ++ r ∷ []) forced_end
+room_push rs r forced_end room whole n le past = elim (cases_lt (length rs) n) [
   | inl all ↦ rw (take_all n (rs ++ r ∷ []) (omega (arith, length_push rs r))) whole
-  | inr part ↦ rw (take-append-le n rs (r ∷ []) part) (room n part)
+  | inr part ↦ rw (take-append-le n rs (r ∷ []) part) (room n part past)
 ]
+
+-- so has each part with more forced records
+pub room_forced : (rs : List Record) (old new : ℕ) → old ≤ new → HasRoomForUndo rs old → HasRoomForUndo rs new
+room_forced rs old new no_less room n le past = room n le (omega (arith, no_less, past))
 
 -- after an accepted call, whatever it is
 pub room_if_accepted : (s : EngineState) (event : Event) → IsFit s → refusal s event ≡ None

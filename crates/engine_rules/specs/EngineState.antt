@@ -434,7 +434,7 @@ HaveMaster master copies = (id : ℕ) (copy : CopyView) → copy_in (state_of co
 pub record IsFit (s : EngineState) : Type 0 where
   pub valid : IsLog (log_of s)
   pub linked : IsLinked s.log
-  pub room : HasRoomForUndo s.log
+  pub room : HasRoomForUndo s.log s.forced_end
   pub forced : (k : ℕ) × (k ≤ length s.log) × (s.forced_end ≡ lsn_of k)
   pub counted : AreCounted s
   pub resident : AreImages s.log s.resident

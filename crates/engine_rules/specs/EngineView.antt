@@ -10,7 +10,7 @@ use Rattle.log_records.specs.Image.{image}
 use Rattle.log_rules.specs.Table.{Table}
 use Rattle.log_store.specs.WrittenLog.{WrittenLog}
 use Rattle.txn_table.specs.declared.returns.Return.{Return}
-use Rattle.txn_table.specs.Returns.{returns_of}
+use Rattle.txn_table.specs.Returns.{HasReturns}
 use Rattle.txn_table.specs.TxnTable.{IsTableOf}
 use Rattle.fuzzy_ckpt.specs.declared.point.Point.{Point}
 use Rattle.fuzzy_ckpt.specs.Ckpt.{CkptView, Phase}
@@ -62,4 +62,4 @@ pub record IsConsistent {S : Type 0} (stored : S → List Page) (s : EngineState
   pub pool_of_log : IsPoolOf stored (log_of s) pool
   pub session_of_log : ckpts.session
       ≡ option_map (session_of (log_of s) s.left) (open_checkpoint s.log)
-  pub returns_of_log : ckpts.returns ≡ returns_of s.log
+  pub returns_of_log : HasReturns s.log ckpts.returns

@@ -11,8 +11,6 @@ use Rattle.fuzzy_ckpt.specs.declared.point.Point.{Point}
 use Rattle.image_copies.specs.Copy.{CopyView}
 use Rattle.copy_vault.specs.Vault.{CopyState, complete, reading, state_of}
 use Rattle.copy_coverage.specs.Copied.{AreRestorable}
-use Rattle.txn_table.specs.declared.resumed.TablesFault.{TablesFault}
-use Rattle.txn_table.specs.Resumed.{IsFaultOf}
 use Rattle.engine_rules.specs.EngineState.{EngineState}
 use Rattle.engine_rules.specs.Gather.{none_left, pages_left}
 
@@ -45,7 +43,3 @@ resumed_state log frames master copies =
       left = option_map_or (λ c. none_left) (open_checkpoint log.records) pages_left;
       copies = copies;
     }
-
--- why it does not go on: memory was refused, or the log lacks room to undo
-abbrev pub IsLeftBy : Log → TablesFault → Type 0
-IsLeftBy log fault = IsFaultOf log.records fault

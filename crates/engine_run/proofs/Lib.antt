@@ -1,4 +1,5 @@
 pub mod Peeks
+pub mod Quiet
 pub mod Replied
 pub mod Told
 pub mod Works

@@ -1,23 +1,21 @@
 -- The checkpoints of a log, record by record.
 use Rattle.std.proofs.Common.{◌≡◌, ℕ, suc, zero, ◌<◌, ◌≤◌, List, [], ◌∷◌, ◌++◌, length, take, take-suc, refl, sym, ap, ◌∙◌}
-use Rattle.std.proofs.Common.{arith, inl, inr, subst, get_or, ◌-◌, ◌/◌}
-use Rattle.std.specs.Prelude.{Contains, Option, Some, None, IsSomeAnd}
+use Rattle.std.proofs.Common.{arith, inl, inr, subst, get_or, ◌-◌}
+use Rattle.std.specs.Prelude.{Contains, Option, Some, None}
 use Rattle.std.specs.Option.{option_map}
 use Rattle.std.proofs.lemmas.List.{append-nil, get_or-take, get_or_default, get_or_push, length-take, length_push, take_all}
 use Rattle.std.proofs.lemmas.Option.{slice_get-get_or}
-use Rattle.std.proofs.lemmas.List.Sums.{fold_push}
 use Rattle.std.proofs.lemmas.List.Elements.{Contains-append_cases, Contains-append_left, Contains-append_right}
 use Rattle.log_records.specs.declared.record.Record.{Record}
 use Rattle.log_records.specs.declared.record.Record.TheVariants.{Begin, EndChkpt}
-use Rattle.log_records.specs.Log.{IsLog, Log, lsn_of, page_count_at, page_count_below}
+use Rattle.log_records.specs.Log.{IsLog, Log, lsn_of, page_count_below}
 use Rattle.log_records.specs.Record.{own_lsn}
 use Rattle.log_rules.specs.declared.ckpt_point.CkptPoint.{CkptPoint}
-use Rattle.log_rules.specs.Checkpoint.{Checkpoint, checkpoint_after, completed_by, completed_in, open_checkpoint}
+use Rattle.log_rules.specs.Checkpoint.{Checkpoint, completed_by, completed_in}
 use Rattle.log_rules.specs.Transactions.{last_of}
 use Rattle.log_rules.proofs.Public.{filter_map_push}
 use Rattle.log_store.specs.declared.checkpoints.OpenCkpt.{OpenCkpt}
 use Rattle.log_store.specs.Analysis.{begun_of}
-use Rattle.log_rules.specs.Linked.{MayEnd}
 use Rattle.fuzzy_ckpt.specs.declared.point.Point.{Point}
 use Rattle.fuzzy_ckpt.specs.Ckpt.{CkptView, Phase, gathered}
 use Rattle.fuzzy_ckpt.specs.LogCheckpoints.{EndBy, IsLastPoint, gathered_of}
@@ -59,26 +57,11 @@ last_other log rs r (Some point) other (is, before) = (
   ],
 )
 
--- the open checkpoint that may end has the page count at its begin
-pub open_pages : (log : Log) (o : Option Checkpoint) (begin redo : ℕ) (P : Checkpoint → Type 0)
-    (view : CkptView Phase) → IsSomeAnd o (λ c. MayEnd begin redo c × P c)
-    → Some view ≡ option_map (gathered_of log) o → view.pages ≡ page_count_below log begin
-open_pages log (Some c) begin redo P view may is =
-    let same : view ≡ gathered_of log c = cc in
-    ap (λ (v : CkptView Phase). v.pages) same ∙ ap (page_count_below log) (sym may.0.same)
-open_pages log None begin redo P view may is = absurd may
-
 -- ---- the record at an index of a log
 
 own_of : (log : Log) (i : ℕ) (r : Record) → IsLog log → i < length log.records → get_or log.records i r ≡ r
     → own_lsn r ≡ lsn_of i
 own_of log i r valid lt at = subst (λ (x : Record). own_lsn x ≡ lsn_of i) at (valid.records i r lt).lsn
-
-pub below_record : (log : Log) (i : ℕ) (r : Record) → IsLog log → i < length log.records
-    → get_or log.records i r ≡ r → page_count_below log (own_lsn r) ≡ page_count_at log i
-below_record log i r valid lt at =
-    let place : (own_lsn r - 1) / 64 ≡ i = omega (arith, own_of log i r valid lt at) in
-    ap (page_count_at log) place
 
 pub end_by_next : (log : Log) (i : ℕ) (r : Record) → IsLog log → i < length log.records
     → get_or log.records i r ≡ r → EndBy (take i log.records) (own_lsn r)
@@ -90,10 +73,6 @@ end_by_next log i r valid lt at = λ e b d (k, low, is).
     let within : k < length log.records = omega (arith, below, lt) in
     let own = own_of log k x valid within there in
     omega (arith, own, own_of log i r valid lt at, below)
-
-pub next_open : (rs : List Record) (r : Record)
-    → checkpoint_after (open_checkpoint rs) r ≡ open_checkpoint (rs ++ r ∷ [])
-next_open rs r = sym (fold_push checkpoint_after None rs r)
 
 -- ---- the complete checkpoints of a log
 

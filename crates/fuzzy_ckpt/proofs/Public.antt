@@ -7,6 +7,8 @@ pub use Rattle.fuzzy_ckpt.proofs.Covers.{all_grown, all_later, all_written, behi
 pub use Rattle.fuzzy_ckpt.proofs.Covers.{behind_later, behind_written, now_covers}
 -- The ends of a checkpoint, and where they stand.
 pub use Rattle.fuzzy_ckpt.proofs.Ends.{begun_is, end_covers, end_pages, end_stands}
+-- The last complete checkpoint of a log, while no other ends.
+pub use Rattle.fuzzy_ckpt.proofs.LastCkpts.{last_other}
 -- The open checkpoint of a log, while the log goes on.
 pub use Rattle.fuzzy_ckpt.proofs.Opens.{ckpt_grown, ckpt_kept, open_before, open_grown, open_push}
 pub use Rattle.fuzzy_ckpt.proofs.Opens.{open_same}

@@ -1,11 +1,13 @@
 -- The checkpoints of a log that is there already.
 use Rattle.std.specs.Prelude.{ℕ, ◌≡◌, ◌≤◌, List, Contains, Option, Some, None}
+use Rattle.std.specs.Option.{option_map}
 use Rattle.log_records.specs.declared.record.Record.{Record}
 use Rattle.log_records.specs.declared.record.Record.TheVariants.{EndChkpt}
 use Rattle.log_records.specs.Log.{Log, page_count_below}
-use Rattle.log_rules.specs.Checkpoint.{Checkpoint, redo_point}
+use Rattle.log_rules.specs.Checkpoint.{Checkpoint, open_checkpoint, redo_point}
+use Rattle.fuzzy_ckpt.specs.declared.log_checkpoints.LogCheckpoints.{LogCheckpoints}
 use Rattle.fuzzy_ckpt.specs.declared.point.Point.{Point}
-use Rattle.fuzzy_ckpt.specs.Ckpt.{CkptView, Phase, gathered}
+use Rattle.fuzzy_ckpt.specs.Ckpt.{CkptView, Phase, gathered, gathered_ckpt}
 
 -- no checkpoint ends past an LSN in these records
 abbrev pub EndBy : List Record → ℕ → Type 0
@@ -30,3 +32,9 @@ gathered_of log c = record {
   redo = redo_point c;
   phase = gathered;
 }
+
+-- these are the checkpoints of a log at its end
+pub record AreCheckpointsOf (log : Log) (it : LogCheckpoints) : Type 0 where
+  pub last : IsLastPoint log log.records it.last
+  pub begun : option_map gathered_ckpt it.«open»
+      ≡ option_map (gathered_of log) (open_checkpoint log.records)

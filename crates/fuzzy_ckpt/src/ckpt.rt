@@ -287,40 +287,6 @@ impl Ckpt<Gathered> {
         }
     }
 
-    /// One that begins here, in a volume of so many pages, and has nothing yet.
-    pub(crate) fn begun(begin: Lsn, pages: u32) -> Ckpt<Gathered>
-        ensures { gathered_ckpt result
-            ≡ record { begin = begin; pages = pages; redo = begin; phase = gathered } }
-    {
-        Ckpt {
-            begin,
-            pages,
-            redo: begin,
-            phase: Gathered,
-        }
-    }
-
-    /// The same with these dirty pages more.
-    pub(crate) fn with_pages(self, dirty: DirtyPages) -> Ckpt<Gathered>
-        ensures { gathered_ckpt result ≡ record (gathered_ckpt self) {
-          redo = fold (λ least e. min least e.rec_lsn) self.redo (entries_of dirty);
-        } }
-    {
-        Ckpt {
-            begin: self.begin,
-            pages: self.pages,
-            redo: least_of(self.redo, dirty),
-            phase: Gathered,
-        }
-    }
-
-    /// The page count of the volume at its begin.
-    pub(crate) fn pages_at_begin(&self) -> u32
-        ensures { result ≡ self.now.pages }
-    {
-        self.pages
-    }
-
     /// Ends the checkpoint: appends its EndChkpt with the redo point, and forces the log through
     /// it. The pool says which pages are stored; this call reads none. The master record is for the
     /// caller to set, once this has answered `Ok`.

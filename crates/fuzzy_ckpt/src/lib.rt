@@ -16,6 +16,6 @@ pub use laws::{
     checkpoints_stay_open_as_transactions_go_on, covered_pages_stay_covered_as_pages_are_written,
     covered_pages_stay_covered_as_the_log_grows, covered_pages_stay_covered_as_the_store_grows,
 };
-pub use log_checkpoints::{LogCheckpoints, checkpoints_of};
+pub use log_checkpoints::LogCheckpoints;
 pub use phase::{Gathered, Pages, Txns};
 pub use point::{FinishFault, Point};

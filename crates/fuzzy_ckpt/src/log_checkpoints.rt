@@ -1,23 +1,18 @@
 //! The checkpoints of a log that is there already.
 
-ghost use Rattle.std.specs.Prelude.{ℕ, ◌≡◌, ◌++◌, [], ◌∷◌, List, Option};
+ghost use Rattle.std.specs.Prelude.{◌≡◌};
 ghost use Rattle.std.specs.Option.{option_map};
-ghost use Rattle.log_records.specs.declared.record.Record.{Record};
-ghost use Rattle.log_records.specs.Log.{IsLog, Log, counts_of, page_count_below};
-ghost use Rattle.log_records.specs.Record.{own_lsn};
-ghost use Rattle.log_rules.specs.Checkpoint.{Checkpoint, checkpoint_after, completed_in};
-ghost use Rattle.log_rules.specs.Checkpoint.{open_checkpoint};
-ghost use Rattle.log_rules.specs.Linked.{IsLinked, MayFollow};
+ghost use Rattle.log_records.specs.Log.{IsLog, Log, counts_of};
+ghost use Rattle.log_rules.specs.Checkpoint.{completed_in, open_checkpoint};
 ghost use Rattle.log_rules.specs.Transactions.{last_of};
 ghost use Rattle.log_store.specs.Analysis.{IsAnalysisOf, begun_of};
 ghost use Rattle.fuzzy_ckpt.specs.Ckpt.{gathered_ckpt};
-ghost use Rattle.fuzzy_ckpt.specs.LogCheckpoints.{EndBy, IsLastPoint, gathered_of};
+ghost use Rattle.fuzzy_ckpt.specs.LogCheckpoints.{IsLastPoint, gathered_of};
 
 use crate::ckpt::Ckpt;
 use crate::phase::Gathered;
 use crate::point::Point;
-use log_records::Record;
-use log_store::{Analysis, CkptPoint, LogImage, OpenCkpt};
+use log_store::{Analysis, CkptPoint, OpenCkpt};
 use page_core::PageCounts;
 
 /// What a log says of its checkpoints at its end, for an engine that goes on from there.
@@ -71,70 +66,5 @@ fn begun_of(begun: Option<OpenCkpt>, counts: &PageCounts) -> Option<Ckpt<Gathere
     match begun {
         Some(it) => Some(Ckpt::found(it.begin, counts.below(it.begin), it.redo)),
         None => None,
-    }
-}
-
-/// The last complete checkpoint of a linked log, and the open one. It reads each record once, and
-/// takes no memory.
-pub fn checkpoints_of(log: &LogImage) -> LogCheckpoints
-    requires linked { IsLinked log.now.records }
-    ensures last { IsLastPoint log.now log.now.records result.last }
-    ensures open { option_map gathered_ckpt result.«open»
-        ≡ option_map (gathered_of log.now) (open_checkpoint log.now.records) }
-{
-    let mut count = log.pages();
-    let mut last = None;
-    let mut open = None;
-    for next in log.records() {
-        last = last_after(last, &open, next);
-        open = open_after(open, count, next);
-        count = next.count_after(count);
-    }
-    LogCheckpoints { last, open }
-}
-
-/// The last complete checkpoint after one more record, before which this one is open.
-fn last_after(last: Option<Point>, current: &Option<Ckpt<Gathered>>, next: &Record) -> Option<Point>
-    ensures { (log : Log) (rs : List Record) → MayFollow rs next.now → EndBy rs (own_lsn next.now)
-        → option_map gathered_ckpt current.now
-        ≡ option_map (gathered_of log) (open_checkpoint rs) → IsLastPoint log rs last
-        → IsLastPoint log (rs ++ next.now ∷ []) result }
-{
-    let Record::EndChkpt { lsn, begin, redo } = *next else {
-        return last;
-    };
-    match current {
-        Some(ckpt) => Some(Point {
-            begin,
-            end: lsn,
-            redo,
-            pages: ckpt.pages_at_begin(),
-        }),
-        None => last,
-    }
-}
-
-/// The open checkpoint after one more record, before which the volume has so many pages.
-fn open_after(current: Option<Ckpt<Gathered>>, count: u32, next: &Record) -> Option<Ckpt<Gathered>>
-    ensures { (log : Log) (c : Option Checkpoint) → page_count_below log (own_lsn next.now) ≡ count
-        → option_map gathered_ckpt current ≡ option_map (gathered_of log) c
-        → option_map gathered_ckpt result
-        ≡ option_map (gathered_of log) (checkpoint_after c next.now) }
-{
-    match *next {
-        Record::BeginChkpt { lsn } => Some(Ckpt::begun(lsn, count)),
-        Record::ChkptPages { pages, .. } => match current {
-            Some(ckpt) => Some(ckpt.with_pages(pages)),
-            None => None,
-        },
-        Record::EndChkpt { .. } => None,
-        Record::Begin { .. }
-        | Record::Update { .. }
-        | Record::Comp { .. }
-        | Record::Commit { .. }
-        | Record::Abort { .. }
-        | Record::End { .. }
-        | Record::ChkptTxns { .. }
-        | Record::Extend { .. } => current,
     }
 }

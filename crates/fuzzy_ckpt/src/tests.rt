@@ -1,24 +1,20 @@
 //! Tests of what a log says of its checkpoints.
 
-ghost use Rattle.std.specs.Prelude.{IfOk};
-ghost use Rattle.log_rules.specs.Linked.{IsLinked};
-
-use crate::{Point, checkpoints_of};
+use crate::{LogCheckpoints, Point};
 use log_records::{DirtyPage, DirtyPages, Record, encode, encode_header};
-use log_store::{LogImage, read_log};
+use log_store::{LogImage, scan_log};
 use page_core::{Change, Lsn, PageNo, SlotNo, TxnNo};
 use std::test::Fail;
 
-/// The log of one page that these records make.
-fn log_of(rt: &HostRuntime, records: &[Record]) -> Result<LogImage, Fail>
-    ensures { IfOk result (λ log. IsLinked log.records) }
-{
+/// The checkpoints of the log of one page that these records make.
+fn found_in(rt: &HostRuntime, records: &[Record]) -> Result<LogCheckpoints, Fail> {
     let mut bytes = Vec::new(rt.alloc());
     bytes.extend_from_slice(&encode_header(1))?;
     for record in records {
         bytes.extend_from_slice(&encode(record))?;
     }
-    Ok(read_log(rt.alloc(), &mut bytes.as_slice())?)
+    let scan = scan_log::<_, LogImage>(rt.alloc(), &mut bytes.as_slice())?;
+    Ok(LogCheckpoints::of(&scan.history.into_analysis()))
 }
 
 /// A complete checkpoint, a change, and a checkpoint that has the changed page and has not ended.
@@ -54,7 +50,7 @@ const RECORDS: [Record; 6] = [
 
 #[test]
 fn the_last_checkpoint_of_a_log_is_found(rt: HostRuntime) -> Result<(), Fail> {
-    let found = checkpoints_of(&log_of(&rt, &RECORDS)?);
+    let found = found_in(&rt, &RECORDS)?;
     let point = Point {
         begin: Lsn(64),
         end: Lsn(128),
@@ -68,7 +64,7 @@ fn the_last_checkpoint_of_a_log_is_found(rt: HostRuntime) -> Result<(), Fail> {
 
 #[test]
 fn a_log_without_checkpoints_has_none(rt: HostRuntime) -> Result<(), Fail> {
-    let found = checkpoints_of(&log_of(&rt, &[])?);
+    let found = found_in(&rt, &[])?;
     assert_eq!(rt; found.last, None);
     assert!(rt; found.open.is_none());
     Ok(())
@@ -76,7 +72,7 @@ fn a_log_without_checkpoints_has_none(rt: HostRuntime) -> Result<(), Fail> {
 
 #[test]
 fn a_checkpoint_that_has_begun_is_open(rt: HostRuntime) -> Result<(), Fail> {
-    let begun = checkpoints_of(&log_of(&rt, &[Record::BeginChkpt { lsn: Lsn(64) }])?);
+    let begun = found_in(&rt, &[Record::BeginChkpt { lsn: Lsn(64) }])?;
     assert_eq!(rt; begun.last, None);
     assert!(rt; begun.open.is_some());
     Ok(())

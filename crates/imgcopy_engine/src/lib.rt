@@ -202,4 +202,3 @@ pub use system_files::SystemFolder;
 pub use taking_up::RefusedCopy;
 pub use transacting::attempt;
 pub use transacting::transact;
-pub use txn_table::TablesFault;

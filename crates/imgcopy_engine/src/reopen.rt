@@ -19,7 +19,6 @@ use page_core::FaultName;
 use std::alloc::{AllocError, Global};
 use std::fmt;
 use std::fs::File;
-use txn_table::TablesFault;
 
 /// An engine whose log and volume are files.
 pub type FileEngine = Engine<FileStore, FileLog>;
@@ -47,8 +46,6 @@ pub enum ReopenFault {
     /// What was open in the log could not be taken back, or a call of the log's file failed before
     /// that, once the log was found.
     Restart(RestartFault),
-    /// No engine goes on with the log.
-    Tables(TablesFault),
 }
 
 impl fmt::Display for ReopenFault {
@@ -59,12 +56,6 @@ impl fmt::Display for ReopenFault {
             ReopenFault::File(why) => write!(f, "{why}"),
             ReopenFault::Found(why) => write!(f, "{why}"),
             ReopenFault::Restart(why) => write!(f, "{why}"),
-            ReopenFault::Tables(TablesFault::OutOfMemory) => write!(
-                f,
-                "{}",
-                FaultName::OutOfMemory
-            ),
-            ReopenFault::Tables(TablesFault::NoRoom) => write!(f, "{}", FaultName::LogFull),
         }
     }
 }
@@ -128,7 +119,7 @@ pub fn reopen_files(
             cut,
             refused,
         }),
-        Err(not) => Err(ReopenFault::Tables(not.fault)),
+        Err(_) => Err(ReopenFault::OutOfMemory),
     }
 }
 

@@ -14,6 +14,8 @@ use Rattle.log_records.specs.Log.{page_count}
 use Rattle.log_rules.specs.History.{IsMadeOf, Made}
 use Rattle.log_rules.specs.Linked.{IsLinked}
 use Rattle.log_rules.specs.Table.{TxnEntry, table_of}
+use Rattle.log_store.specs.Analysis.{IsAnalysisOf}
+use Rattle.log_store.specs.declared.analysis.Analysis.{Analysis}
 use Rattle.log_store.specs.Fault.{MayComeBehind}
 use Rattle.log_store.specs.declared.fault.LogReadFault.{LogReadFault}
 use Rattle.log_store.specs.declared.fault.LogReadFault.TheVariants as whole
@@ -74,6 +76,11 @@ pub record FoundFront : Type 0 where
 pub record IsFrontOf (bytes : List ℕ) (found : FoundFront) : Type 0 where
   pub longest : IsLongestFront bytes found.log
   pub cut : IsCut bytes found.log found.cut
+
+-- a linked log, and what reading it has answered
+pub record IsRead (log : Log) (answered : Analysis) : Type 0 where
+  pub linked : IsLinked log.records
+  pub analysis : IsAnalysisOf log answered
 
 -- a linked log leads to these pages, and to these open transactions with their pending changes
 pub record LeadsTo (log : Log) (pages : List Page) (losers : List TxnEntry) : Type 0 where

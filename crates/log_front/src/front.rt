@@ -20,24 +20,24 @@ use txn_table::Losers;
 pub struct Front {
     log: LogImage,
     cut: Option<Cut>,
-    /// What its records lead to: reading has made this, since it decides which record may follow.
-    pages: Vec<Page>,
-    losers: Losers,
+    /// What reading its records answered: this decides which record may follow.
+    analysis: Analysis,
 }
 
 impl Model for Front {
-    ghost use Rattle.log_front.specs.Front.{FoundFront, LeadsTo};
+    ghost use Rattle.log_front.specs.Front.{FoundFront, IsRead};
 
     ghost Value = { FoundFront };
 
     ghost view = { λ front. record { log = front.log; cut = front.cut } };
 
-    ghost invariant = { λ front. LeadsTo front.log front.pages.items front.losers };
+    ghost invariant = { λ front. IsRead front.log front.analysis };
 }
 
 impl Front {
     ghost use Rattle.std.specs.Prelude.{◌≡◌};
     ghost use Rattle.log_rules.specs.Linked.{IsLinked};
+    ghost use Rattle.log_store.specs.Analysis.{IsAnalysisOf};
     ghost use Rattle.log_front.specs.Front.{LeadsTo};
 
     /// The front: a linked log.
@@ -55,6 +55,14 @@ impl Front {
         self.cut
     }
 
+    /// What reading it answered. So who asks for its checkpoints or its transactions need not go
+    /// over its records again.
+    pub fn analysis(&self) -> &Analysis
+        ensures { IsAnalysisOf self.now.log result.now }
+    {
+        &self.analysis
+    }
+
     /// The front, and the cut.
     pub fn into_parts(self) -> (LogImage, Option<Cut>)
         ensures parts { (result.0 ≡ self.log) × (result.1 ≡ self.cut) }
@@ -69,7 +77,9 @@ impl Front {
         ensures log { result.0 ≡ self.log }
         ensures leads { LeadsTo self.log result.1.items result.2 }
     {
-        (self.log, self.pages, self.losers)
+        let Front { log, analysis, .. } = self;
+        let Analysis { pages, txns, .. } = analysis;
+        (log, pages, txns.into_losers())
     }
 }
 
@@ -87,11 +97,9 @@ pub fn read_front<R: Read>(alloc: Global, reader: &mut R) -> Result<Front, Front
     ensures none { result ≡ Err BadHeader → IfSome (R.remaining reader.old) HasNoFront }
 {
     let FrontScan { scan, cut } = scan_front::<R, LogImage>(alloc, reader)?;
-    let Analysis { pages, txns, .. } = scan.history.into_analysis();
     Ok(Front {
         log: scan.sink,
         cut,
-        pages,
-        losers: txns.into_losers(),
+        analysis: scan.history.into_analysis(),
     })
 }

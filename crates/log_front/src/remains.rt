@@ -79,18 +79,7 @@ fn record_alone(bytes: &[u8], at: Lsn) -> Option<Record>
 fn is_forced_at_once(record: &Record) -> bool
     ensures { IsTrue result ↔ IsForcedAtOnce «record».now }
 {
-    match *record {
-        Record::Commit { .. } | Record::EndChkpt { .. } => true,
-        Record::Begin { .. }
-        | Record::Update { .. }
-        | Record::Comp { .. }
-        | Record::Abort { .. }
-        | Record::End { .. }
-        | Record::BeginChkpt { .. }
-        | Record::ChkptPages { .. }
-        | Record::ChkptTxns { .. }
-        | Record::Extend { .. } => false,
-    }
+    matches!(*record, Record::Commit { .. } | Record::EndChkpt { .. })
 }
 
 /// How many places of 64 bytes there are, with that of the header.

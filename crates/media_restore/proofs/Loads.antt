@@ -5,7 +5,7 @@ use Rattle.std.proofs.Common.{◌∙◌, arith, min}
 use Rattle.std.specs.Prelude.{Option, Some, None, IfSome, nat_lt, true, false, Bool, if◌then◌else◌}
 use Rattle.std.proofs.Math.Seq.{get_or-append_right, take-append-add}
 use Rattle.std.proofs.lemmas.Bool.{ltb-false}
-use Rattle.std.proofs.lemmas.List.{get_or-map, length-append, length-map, length-take, same_lists, take-take, take_min}
+use Rattle.std.proofs.lemmas.List.{get_or-map, length-append, length-map, same_lists, take_min}
 use Rattle.std.proofs.lemmas.List.FromFn.{get_or-map-range_with_len, length-map-range_with_len, take-map-range_with_len}
 use Rattle.page_core.specs.declared.page.Page.{Page}
 use Rattle.log_records.specs.declared.limits.TheConstants.{MAX_RECORDS}
@@ -26,7 +26,7 @@ use Rattle.copy_vault.specs.ChainOf.{IsChainOf}
 use Rattle.image_copies.specs.Copy.{CopyView}
 use Rattle.copy_vault.specs.Vault.{state_of}
 use Rattle.copy_coverage.specs.Kept.{IsKeptOf}
-use Rattle.copy_coverage.specs.Retired.{HasRoomForUndo, NamesCheckpoint, IsRetired, RetiredView}
+use Rattle.copy_coverage.specs.Retired.{NamesCheckpoint, IsRetired, RetiredView}
 use Rattle.copy_coverage.proofs.Public.{restored_of_members}
 use Rattle.copy_coverage.proofs.Public.{prefix_is_log}
 use Rattle.media_restore.specs.declared.fault.LoadFault.{LoadFault}
@@ -61,12 +61,12 @@ kept_of it cut retired fine =
       made = ap (λ (xs : List Record). record it.log { records = xs }) (sym (take_min cut rs));
     }
 
-pub room_of : (it : RetiredView) (cut : ℕ) → IsRetired it → HasRoomForUndo (kept_log it.log cut).records
-room_of it cut retired = λ n le.
-    let rs = it.log.records in
-    let short = length-take cut rs in
-    let same : take n (take cut rs) ≡ take n rs = take-take n cut rs (omega arith) in
-    subst (λ (xs : List Record). length xs + owed xs ≤ MAX_RECORDS) (sym same) (retired.room n (omega arith))
+-- what is open at its end can be taken back
+pub room_of : (it : RetiredView) (kept : Log) → IsRetired it → IsKeptOf it.log it.forced_end kept
+    → length kept.records + owed kept.records ≤ MAX_RECORDS
+room_of it kept retired is =
+    subst (λ (log : Log). length log.records + owed log.records ≤ MAX_RECORDS) (sym is.made)
+    (retired.room is.count is.within is.forced)
 
 complete_in : (log : Log) (n begin end : ℕ) → IsLog log → n ≤ length log.records
     → IsCompleteCheckpoint log.records begin end → end < lsn_of n → IsCompleteCheckpoint (take n log.records) begin end

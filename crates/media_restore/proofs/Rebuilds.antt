@@ -1,17 +1,13 @@
 -- A restore from its load to its undo, after the events that an engine was given.
-use Rattle.std.proofs.Common.{◌≡◌, ℕ, ◌+◌, ◌<◌, ◌≤◌, List, length, map, refl, sym, ap, subst, ◌∙◌, arith}
+use Rattle.std.proofs.Common.{◌≡◌, ℕ, List, length, map, refl, sym, ap, subst, ◌∙◌}
 use Rattle.std.specs.Prelude.{Option, None, Some, Result, IfErr, IfOk, OnOk}
 use Rattle.std.specs.Option.{option_map}
-use Rattle.std.proofs.Math.Seq.{take-length}
-use Rattle.log_records.specs.declared.limits.TheConstants.{MAX_RECORDS}
-use Rattle.log_records.specs.declared.record.Record.{Record}
 use Rattle.log_records.specs.Log.{Log}
-use Rattle.log_rules.specs.Transactions.{owed}
 use Rattle.log_rules.specs.Work.{work}
 use Rattle.log_store.specs.declared.master.Master.{Master}
 use Rattle.copy_vault.specs.Vault.{CopyState, complete, dropped, reading, state_of}
 use Rattle.copy_coverage.specs.Kept.{IsKeptOf}
-use Rattle.copy_coverage.specs.Retired.{HasRoomForUndo, RetiredView}
+use Rattle.copy_coverage.specs.Retired.{RetiredView}
 use Rattle.loser_undo.specs.declared.fault.UndoFault.{UndoFault}
 use Rattle.loser_undo.specs.declared.fault.UndoFault.TheVariants.{LogFull, OutOfMemory}
 use Rattle.loser_undo.specs.Recovery.{Recovery}
@@ -32,12 +28,6 @@ use Rattle.media_restore.specs.Rebuild.{IsOfMemory, IsRebuilt, IsRestored, Resto
 use Rattle.media_restore.specs.Rebuild.{entry_refusal, restore_refusal}
 
 -- ---- a log that has room is undone, unless memory is wanting
-
-pub has_room_now : (rs : List Record) → HasRoomForUndo rs → ¬ (MAX_RECORDS < length rs + owed rs)
-has_room_now rs room = λ past.
-    let whole : length rs + owed rs ≤ MAX_RECORDS =
-    subst (λ (xs : List Record). length xs + owed xs ≤ MAX_RECORDS) (take-length rs) (room (length rs) (omega arith)) in
-    omega arith
 
 pub of_memory : (fault : UndoFault) → ¬ (fault ≡ LogFull) → IsOfMemory (Undo fault)
 of_memory LogFull not_full = absurd (not_full refl)

@@ -78,7 +78,7 @@ has_room : (whole : Log) (master : Master) (copies : List CopyView) → AreLeft 
     → most_records whole ≤ MAX_RECORDS
 has_room whole master copies left =
     subst (λ (k : Log). most_records k ≤ MAX_RECORDS) (sym left.kept.made)
-    (left.retired.room left.kept.count left.kept.within)
+    (left.retired.room left.kept.count left.kept.within left.kept.forced)
 
 pub refused_outside : (whole : Log) (master : Master) (copies : List CopyView) (fault : RestoreFault)
     → AreLeft whole master copies → Refused (files_of whole master copies) fault

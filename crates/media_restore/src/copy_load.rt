@@ -1,6 +1,7 @@
 //! Loads a copy.
 
-ghost use Rattle.std.specs.Prelude.{◌≡◌, List, map, IfOk, IfErr, OnOk, OnErr, None, Some};
+ghost use Rattle.std.specs.Prelude.{◌≡◌, ◌+◌, ◌≤◌, List, length, map, IfOk, IfErr, OnOk, OnErr, None, Some};
+ghost use Rattle.log_records.specs.declared.limits.TheConstants.{MAX_RECORDS};
 ghost use Rattle.log_records.specs.Coverage.{resume};
 ghost use Rattle.log_records.specs.Image.{redo_all};
 ghost use Rattle.log_records.specs.Log.{page_count};
@@ -8,7 +9,8 @@ ghost use Rattle.image_copies.specs.Chain.{IsChain, contents, last_redo};
 ghost use Rattle.copy_vault.specs.ChainOf.{IsChainOf};
 ghost use Rattle.image_copies.specs.Copy.{CopyView};
 ghost use Rattle.copy_coverage.specs.Kept.{IsKeptOf};
-ghost use Rattle.copy_coverage.specs.Retired.{HasRoomForUndo, IsRetired};
+ghost use Rattle.copy_coverage.specs.Retired.{IsRetired};
+ghost use Rattle.log_rules.specs.Transactions.{owed};
 ghost use Rattle.media_restore.specs.Load.{LoadRefuses, copy_refusal, kept_log, load_refusal};
 ghost use Rattle.copy_vault.specs.Vault.{state_of};
 ghost use Rattle.media_restore.specs.declared.fault.LoadFault.TheVariants.{OutOfMemory};
@@ -33,7 +35,8 @@ pub fn load(
     ensures log { IfOk result (λ it. it.log ≡ kept_log retired.log cut) }
     // The kept log is one that a crash may leave, with room to take back what is open in it.
     ensures kept { IfOk result (λ it. IsKeptOf retired.log retired.forced_end it.log) }
-    ensures room { IfOk result (λ it. HasRoomForUndo it.log.records) }
+    ensures room { IfOk result (λ it.
+        length it.log.records + owed it.log.records ≤ MAX_RECORDS) }
     ensures master { IfOk result (λ it. retired.master ≡ Some it.master) }
     ensures chain { IfOk result (λ it. (members : List CopyView) × IsChain members
         × IsChainOf retired.copies copy members × (it.pages ≡ contents members (page_count it.log))

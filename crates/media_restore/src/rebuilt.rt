@@ -1,10 +1,11 @@
 //! A whole restore: load, redo and undo; and the same after playing a list of events.
 
-ghost use Rattle.std.specs.Prelude.{◌≡◌, ◌<◌, ◌≤◌, All, IfErr, IfOk, OnOk, length, None};
+ghost use Rattle.std.specs.Prelude.{◌≡◌, ◌+◌, ◌<◌, ◌≤◌, All, IfErr, IfOk, OnOk, length, None};
 ghost use Rattle.std.specs.Prelude.{Some};
 ghost use Rattle.log_records.specs.Log.{IsPageCount, lsn_of};
 ghost use Rattle.copy_coverage.specs.Kept.{IsKeptOf};
-ghost use Rattle.copy_coverage.specs.Retired.{HasRoomForUndo};
+ghost use Rattle.log_records.specs.declared.limits.TheConstants.{MAX_RECORDS};
+ghost use Rattle.log_rules.specs.Transactions.{owed};
 ghost use Rattle.loser_undo.specs.Recovery.{HasLogsPages};
 ghost use Rattle.engine_rules.specs.EngineView.{EngineView};
 ghost use Rattle.engine_rules.specs.Step.{IsByDevice, IsFaultReply};
@@ -126,7 +127,8 @@ fn redo_copy(
     ensures master { IfOk result (λ it. retired.master ≡ Some it.master) }
     ensures kept { OnOk result
         (IsKeptOf retired.log retired.forced_end (kept_log retired.log cut)) }
-    ensures room { IfOk result (λ it. HasRoomForUndo it.log.records) }
+    ensures room { IfOk result (λ it.
+        length it.log.records + owed it.log.records ≤ MAX_RECORDS) }
     ensures whole { IfOk result (λ it. HasLogsPages it) }
     ensures ok { OnOk result (load_refusal retired copy cut ≡ None) }
     ensures err { IfErr result (λ why. RestoreRefuses (load_refusal retired copy cut) why) }
@@ -143,7 +145,7 @@ fn redo_copy(
 
 /// Undoes the transactions that are open at the end of a log that has room for that.
 fn undo(redone: Redone) -> Result<Undone, Refused>
-    requires room { HasRoomForUndo redone.log.records }
+    requires room { length redone.log.records + owed redone.log.records ≤ MAX_RECORDS }
     requires whole { HasLogsPages redone }
     ensures master { IfOk result (λ it. it.master ≡ redone.master) }
     ensures restored { IfOk result (λ it. IsRestored redone.log it) }

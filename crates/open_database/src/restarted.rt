@@ -39,10 +39,9 @@ use crate::volume_file::{check_volume, volume_of};
 use aries_core::Engine;
 use engine_restart::{FoundLog, Restarted, restart, store_of};
 use file_devices::FileLog;
-use fuzzy_ckpt::{Point, checkpoints_of};
+use fuzzy_ckpt::{LogCheckpoints, Point};
 use log_front::Front;
 use log_records::Record;
-use log_store::LogImage;
 use manifest::{DatabaseName, Manifest, Sums};
 use page_core::Lsn;
 use page_store::PageStore;
@@ -394,7 +393,7 @@ fn go_on<F: DatabaseFolder>(
     ensures claimed { F.is_claimed folder.new }
 {
     let (others, database) = beside;
-    let facts = Facts::of(found.front.log(), &others.master);
+    let facts = Facts::of(&found.front, &others.master);
     let end = found.front.log().end();
     let (mut restarted, device) = restart_on(teller.alloc, found)?;
     let first = facts.first_line(&restarted);
@@ -425,11 +424,11 @@ struct Facts {
 }
 
 impl Facts {
-    fn of(log: &LogImage, master: &FoundMaster) -> Facts
-        requires { IsLinked log.now.records }
-        ensures { IsLog log.now }
+    fn of(front: &Front, master: &FoundMaster) -> Facts
+        ensures { IsLog front.now.log }
     {
-        let last = checkpoints_of(log).last;
+        let log = front.log();
+        let last = LogCheckpoints::of(front.analysis()).last;
         Facts {
             records: log.records().len(),
             end: log.end(),

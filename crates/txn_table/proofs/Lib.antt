@@ -1,6 +1,7 @@
 pub mod Beside
 pub mod Comps
 pub mod Going
+pub mod GoneReturns
 pub mod NextRecords
 pub mod Owed
 pub mod Public

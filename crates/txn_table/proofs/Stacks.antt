@@ -47,12 +47,6 @@ pub returns_push : (rs : List Record) (r : Record)
     → returns_of (rs ++ r ∷ []) ≡ returns_of rs ++ option_to_list (return_of rs r)
 returns_push rs r = returns_from_push [] rs r
 
--- what the next record shows comes behind them
-pub returns_added : (rs : List Record) (r : Record) (made : List Return) (back : Option Return)
-    → made ≡ returns_of rs → back ≡ return_of rs r → made ++ option_to_list back ≡ returns_of (rs ++ r ∷ [])
-returns_added rs r made back same is =
-    ap₂ (λ xs o. xs ++ option_to_list o) same is ∙ sym (returns_push rs r)
-
 abbrev pub at_last : List PendingChange → Record → ℕ → Option (List PendingChange)
 at_last changes r at = cond (eqb (own_lsn r) at) (Some (with_pending changes r)) None
 

@@ -219,8 +219,9 @@ least-holder {begun} {claims} {xs} page slot kind t tracks =
 
 -- ---- no entry
 
-pub tracks-nil : (claims : Claims) → ((page slot : ℕ) → claim_at claims page slot ≡ no_claim) → Tracks 0 claims []
-tracks-nil claims none = record {
+pub tracks-nil : (begun : ℕ) (claims : Claims) → ((page slot : ℕ) → claim_at claims page slot ≡ no_claim)
+    → Tracks begun claims []
+tracks-nil begun claims none = record {
   ranked = tt;
   reached = tt;
   sound = All-nil IsSoundEntry;

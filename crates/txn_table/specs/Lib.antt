@@ -1,4 +1,3 @@
-pub mod Resumed
 pub mod Returns
 pub mod TxnTable
 pub mod CountUpTo

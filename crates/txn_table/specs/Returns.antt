@@ -1,13 +1,13 @@
 -- The Comps of a log that go back to savepoints.
-use Rattle.std.specs.Prelude.{ℕ, ◌<◌, ◌++◌, List, [], ◌∷◌, length, Option, Some, None}
+use Rattle.std.specs.Prelude.{ℕ, ◌≡◌, ◌<◌, ◌≤◌, ◌++◌, false, List, [], ◌∷◌, length, Option, Some, None}
 use Rattle.std.specs.Prelude.{if◌then◌else◌}
-use Rattle.std.specs.List.{AllPairs}
+use Rattle.std.specs.List.{All, AllPairs}
 use Rattle.std.specs.Option.{option_to_list}
 use Rattle.log_records.specs.declared.record.Record.{Record}
 use Rattle.log_records.specs.declared.record.Record.TheVariants.{Begin, Update, Comp, Commit, Abort}
 use Rattle.log_records.specs.declared.record.Record.TheVariants.{End, BeginChkpt, ChkptPages}
 use Rattle.log_records.specs.declared.record.Record.TheVariants.{ChkptTxns, EndChkpt, Extend}
-use Rattle.log_rules.specs.Transactions.{is_rolling, pending, without_last}
+use Rattle.log_rules.specs.Transactions.{begun, is_open, is_rolling, pending, without_last}
 use Rattle.txn_table.specs.declared.returns.Return.{Return}
 
 -- those of a log, and room for so many
@@ -47,3 +47,13 @@ returns_of rs = returns_from [] rs
 -- the LSNs rise
 abbrev pub AreRising : List Return → Type 0
 AreRising made = AllPairs (λ a b. a.lsn < b.lsn) made
+
+-- these are the last ones of a log, with each one of an open transaction: what it has before them is of
+-- transactions up to a number, and of those none is open any more
+pub record HasReturns (rs : List Record) (made : List Return) : Type 0 where
+  pub gone : List Return
+  pub all : returns_of rs ≡ gone ++ made
+  pub past : ℕ
+  pub within : past ≤ length (begun rs)
+  pub older : All (λ x. x.txn ≤ past) gone
+  pub ended : (t : ℕ) → t ≤ past → is_open rs t ≡ false

@@ -61,8 +61,15 @@ impl OpenTransactions {
     pub fn new(alloc: Global) -> OpenTransactions
         ensures { result.table ≡ record { begun = 0; entries = [] } }
     {
+        OpenTransactions::ended(alloc, 0)
+    }
+
+    /// Where so many transactions began, and none is open.
+    pub fn ended(alloc: Global, begun: u32) -> OpenTransactions
+        ensures { result.table ≡ record { begun = begun; entries = [] } }
+    {
         OpenTransactions {
-            begun: 0,
+            begun,
             list: OpenList::new(alloc),
             claims: Claims::new(alloc),
         }
@@ -212,10 +219,7 @@ impl OpenTransactions {
                 undo_next,
                 ..
             } => self.is_now(txn, state, last, undo_next),
-            Record::BeginChkpt { .. }
-            | Record::ChkptPages { .. }
-            | Record::EndChkpt { .. }
-            | Record::Extend { .. } => true,
+            _ => true,
         }
     }
 
@@ -336,10 +340,7 @@ impl OpenTransactions {
                 undo_next,
                 ..
             } => Ok(self.is_now(txn, state, last, undo_next)),
-            Record::BeginChkpt { .. }
-            | Record::ChkptPages { .. }
-            | Record::EndChkpt { .. }
-            | Record::Extend { .. } => Ok(true),
+            _ => Ok(true),
         }
     }
 

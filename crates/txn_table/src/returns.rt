@@ -8,7 +8,8 @@ ghost use Rattle.log_records.specs.declared.record.Record.{Record};
 ghost use Rattle.log_records.specs.Log.{IsLog, Log};
 ghost use Rattle.log_rules.specs.Savepoints.{savepoint};
 ghost use Rattle.log_rules.specs.Transactions.{is_open, is_rolling};
-ghost use Rattle.txn_table.specs.Returns.{AreRising, return_of, returns_of};
+ghost use Rattle.log_rules.specs.Linked.{MayFollow};
+ghost use Rattle.txn_table.specs.Returns.{AreRising, HasReturns, return_of};
 ghost use Rattle.txn_table.specs.TxnTable.{IsTableOf};
 
 use crate::table::TxnTable;
@@ -25,8 +26,9 @@ pub struct Return {
     pub left: usize,
 }
 
-/// The Comps of a log that go back to savepoints. A look into it takes time logarithmic in their
-/// number, so it need not go from Comp to Comp.
+/// The Comps of a log that go back to savepoints; those of transactions that have ended may be left out,
+/// since nobody asks for them. A look into it takes time logarithmic in their number, so it need not go
+/// from Comp to Comp.
 #[derive(Drop)]
 pub struct Returns {
     made: Vec<Return>,
@@ -42,7 +44,7 @@ impl Model for Returns {
 }
 
 impl Returns {
-    /// Of a log without records.
+    /// Of a log without records, or of one in which no transaction is open.
     pub fn new(alloc: Global) -> Returns
         ensures { result.made ≡ [] }
     {
@@ -69,8 +71,8 @@ impl Returns {
     pub fn add(&mut self, back: &Option<Return>)
         requires room { IsSome back.now → length self.old.made < self.old.room }
         ensures added { self.new.made ≡ self.old.made ++ option_to_list back.now }
-        ensures log { (rs : List Record) (r : Record) → self.old.made ≡ returns_of rs
-            → back.now ≡ return_of rs r → self.new.made ≡ returns_of (rs ++ r ∷ []) }
+        ensures log { (rs : List Record) (r : Record) → HasReturns rs self.old.made
+            → MayFollow rs r → back.now ≡ return_of rs r → HasReturns (rs ++ r ∷ []) self.new.made }
     {
         if let Some(back) = back {
             self.made.push_reserved(*back);
@@ -96,7 +98,7 @@ impl Returns {
     /// ones of those now; None where the LSN is no savepoint.
     pub fn savepoint(&self, table: &TxnTable, txn: TxnNo, at: Lsn) -> Option<usize>
         ensures { (log : Log) → IsLog log → IsTableOf log.records table.now.table
-            → self.now.made ≡ returns_of log.records → is_open log.records txn ≡ true
+            → HasReturns log.records self.now.made → is_open log.records txn ≡ true
             → is_rolling log.records txn ≡ false → result ≡ savepoint log.records txn at }
     {
         let Some(state) = table.entry(txn) else {

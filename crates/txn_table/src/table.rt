@@ -69,6 +69,17 @@ impl TxnTable {
         }
     }
 
+    /// The table of a log in which so many transactions began, and none is open.
+    pub fn ended(alloc: Global, count: u32) -> TxnTable
+        ensures { (rs : List Record) → open_in rs ≡ [] → count ≡ length (begun rs)
+            → result.table ≡ table_of rs }
+    {
+        TxnTable {
+            open: OpenTransactions::ended(alloc, count),
+            owed: 0,
+        }
+    }
+
     /// The number of the next transaction.
     pub fn begin(&self) -> TxnNo
         requires { (rs : List Record) × IsTableOf rs self.now.table }
@@ -198,16 +209,7 @@ impl TxnTable {
     {
         match *next {
             Record::Comp { lsn, txn, .. } => self.return_by(lsn, txn),
-            Record::Begin { .. }
-            | Record::Update { .. }
-            | Record::Commit { .. }
-            | Record::Abort { .. }
-            | Record::End { .. }
-            | Record::BeginChkpt { .. }
-            | Record::ChkptPages { .. }
-            | Record::ChkptTxns { .. }
-            | Record::EndChkpt { .. }
-            | Record::Extend { .. } => None,
+            _ => None,
         }
     }
 
@@ -246,11 +248,7 @@ impl TxnTable {
             Record::Abort { .. } => self.owed - 1,
             Record::Commit { txn, .. } => self.owed - self.owed_by(txn),
             Record::End { txn, .. } => self.owed - self.owed_by(txn),
-            Record::BeginChkpt { .. } => self.owed,
-            Record::ChkptPages { .. } => self.owed,
-            Record::ChkptTxns { .. } => self.owed,
-            Record::EndChkpt { .. } => self.owed,
-            Record::Extend { .. } => self.owed,
+            _ => self.owed,
         }
     }
 

@@ -1,4 +1,4 @@
-use Rattle.std.proofs.Common.{◌≡◌, ◌+◌, ◌≤◌, ◌∙◌, ℕ, List, [], ap, arith, length, subst, sym}
+use Rattle.std.proofs.Common.{◌≡◌, ◌+◌, ◌≤◌, ◌∙◌, ℕ, List, [], ap, arith, length, refl, subst, sym}
 use Rattle.page_core.specs.declared.page.Page.{Page}
 use Rattle.log_records.specs.Image.{redo_all}
 use Rattle.log_records.specs.Log.{IsLog, Log, page_count}
@@ -56,6 +56,20 @@ overflow_add-count c =
     found.ensures.log read.valid read.records found.ensures.leads in
     let most = owed_few front.records found.ensures.leads.linked in
     omega (arith, it.few, count, most, c.owed.ensures, owed_of front.records found.result.2 it)
+
+pub returns-then-count-owed-clause-full : goal.returns-then-count-owed-clause-full
+returns-then-count-owed-clause-full c =
+    let front = c.args.front.log in
+    let found = c.into_replayed-log in
+    let read = c.records-count.ensures in
+    let it = made front found.result.0 c.records-count.result.now found.result.1.items found.result.2 found.ensures.log
+    read.valid read.records found.ensures.leads in
+    let count = many front found.result.0 c.records-count.result.now found.result.1.items found.result.2
+    found.ensures.log read.valid read.records found.ensures.leads in
+    let most = owed_few front.records found.ensures.leads.linked in
+    let is : c.owed.result ≡ owed front.records =
+    omega (arith, it.few, most, c.owed.ensures, owed_of front.records found.result.2 it) in
+    (refl, omega (arith, count, is, c.if-count-owed.true))
 
 pub undo_into-requires : goal.undo_into-requires
 undo_into-requires c =

@@ -1,4 +1,5 @@
-use Rattle.std.proofs.Common.{◌≡◌, length, refl, ap, arith, subst, sym, ◌∙◌}
+use Rattle.std.proofs.Common.{◌≡◌, ◌+◌, ◌≤◌, length, refl, ap, arith, subst, sym, ◌∙◌}
+use Rattle.log_records.specs.declared.limits.TheConstants.{MAX_RECORDS}
 use Rattle.log_records.specs.Log.{IsLog, Log, lsn_of}
 use Rattle.log_records.specs.declared.record.Record.{Record}
 use Rattle.log_rules.specs.Transactions.{owed}
@@ -20,6 +21,20 @@ overflow_add-records g c =
     let is : c.owed.result ≡ owed front.records =
     omega (arith, few, same, most, c.owed.ensures, owed_of front.records c.into_replayed-log.result.2 made) in
     omega (arith, few, same, most, is, ap (length {A = Record}) c.records.ensures.records)
+
+pub with_undo-requires-clause-room : goal.with_undo-requires-clause-room
+with_undo-requires-clause-room g c =
+    let front = c.args.front.log in
+    let found = c.into_replayed-log in
+    let same = ap (λ (log : Log). length log.records) found.ensures.log in
+    let few = c.records.ensures.valid.count in
+    let made : AreLosersOf front.records found.result.2 =
+    record { linked = found.ensures.leads.linked; few = omega (arith, few, same); made = found.ensures.leads.still_open } in
+    let most = owed_few front.records found.ensures.leads.linked in
+    let is : c.owed.result ≡ owed front.records =
+    omega (arith, few, same, most, c.owed.ensures, owed_of front.records found.result.2 made) in
+    subst (λ (log : Log). length log.records + owed log.records ≤ MAX_RECORDS) (sym found.ensures.log)
+    (omega (arith, same, is, ap (length {A = Record}) c.records.ensures.records, c.if-records-owed.false))
 
 pub returns-then-records-owed-clause-stands : goal.returns-then-records-owed-clause-stands
 returns-then-records-owed-clause-stands g c =

@@ -8,7 +8,6 @@ use Rattle.copy_vault.specs.ChainOf.{IsChainOf}
 use Rattle.image_copies.specs.Copy.{CopyView}
 use Rattle.copy_vault.specs.Vault.{CopyState}
 use Rattle.copy_coverage.specs.Kept.{IsKeptOf}
-use Rattle.copy_coverage.specs.Retired.{HasRoomForUndo}
 use Rattle.media_restore.specs.Load.{IsLoaded, LoadedView, kept_log}
 use Rattle.media_restore.proofs.Loads.{all_restored, cut_is_fine, kept_of, loaded, pages_at_cut, room_of}
 use Rattle.media_restore.proofs.copy_load.load.Goals as goal
@@ -78,11 +77,7 @@ returns-clause-kept c =
 
 pub returns-clause-room : goal.returns-clause-room
 returns-clause-room c =
-    let it = c.args.retired in
-    let log : c.keep_first.new.self ≡ kept_log it.log c.args.cut =
-    c.keep_first.ensures ∙ ap (λ (log : Log). kept_log log c.args.cut) c.into_log-log.ensures in
-    subst (λ (it' : LoadedView). HasRoomForUndo it'.log.records) (sym c.new.ensures)
-    (subst (λ (log : Log). HasRoomForUndo log.records) (sym log) (room_of it c.args.cut c.refusal_of.ensures.kept))
+    room_of c.args.retired c.new.result.log c.refusal_of.ensures.kept (returns-clause-kept c)
 
 pub returns-clause-chain : goal.returns-clause-chain
 returns-clause-chain c =

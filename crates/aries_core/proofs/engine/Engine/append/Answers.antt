@@ -5,6 +5,7 @@ use Rattle.log_records.specs.Record.{change_of}
 use Rattle.log_records.proofs.Public.{transaction_gives_none}
 use Rattle.log_records.specs.Log.{Log, StandsAt, lsn_of}
 use Rattle.log_records.specs.Log.{page_count}
+use Rattle.txn_table.specs.Returns.{HasReturns}
 use Rattle.engine_rules.specs.Call.{Calls}
 use Rattle.engine_rules.specs.EngineState.{EngineState, with_appended, log_of}
 use Rattle.engine_rules.specs.EngineView.{EngineView, IsConsistent, engine_view}
@@ -128,8 +129,9 @@ invariant_of-self-2 g c =
     s.log table come.may_follow in
     let changed = c.change.ensures.kept (log_of s) c.self.invariant.pool_of_log
     (valid_with s r c.self.invariant.fit come) in
-    let back = c.add.ensures.log s.log r (c.make_room-else-is_err.ensures.same ∙ c.self.invariant.returns_of_log)
-    (c.return_of-back.ensures s.log table come.may_follow) in
+    let back = c.add.ensures.log s.log r
+    (subst (HasReturns s.log) (sym c.make_room-else-is_err.ensures.same) c.self.invariant.returns_of_log)
+    come.may_follow (c.return_of-back.ensures s.log table come.may_follow) in
     subst (λ (t : EngineState). IsConsistent stored t c.note.new.self.table c.change.new.self after) (sym (state_after g c))
     (kept_next stored s it.txns.table c.note.new.self.table it.pool c.change.new.self media c.add.new.self.made r c.self.invariant
     come (subst (λ (v : EngineView g.row.S.Denot g.row.D.Denot).

@@ -1,13 +1,14 @@
 use Rattle.std.proofs.Common.{◌≡◌, ◌<◌, length, sym, ap, subst, ◌∙◌, arith}
 use Rattle.log_records.specs.Log.{Log, StandsAt, lsn_of}
 use Rattle.log_records.specs.Log.{page_count}
+use Rattle.txn_table.specs.Returns.{HasReturns}
 use Rattle.engine_rules.specs.Call.{Calls}
 use Rattle.engine_rules.specs.EngineState.{EngineState, with_appended, log_of, with_page}
 use Rattle.engine_rules.specs.EngineView.{EngineView, engine_view}
 use Rattle.engine_rules.specs.EngineState.{volume_pages}
 use Rattle.aries_core.specs.OpenCkpt.{media_view}
 use Rattle.aries_core.proofs.Appends.{after_fetch, appended_is, valid_with}
-use Rattle.aries_core.proofs.Asks.{brought_is}
+use Rattle.aries_core.proofs.Asks.{brought_is, page_was_asked}
 use Rattle.engine_rules.proofs.Public.{comes, comes_few}
 use Rattle.aries_core.proofs.engine.Engine.append_fetching.Goals as goal
 use Rattle.aries_core.proofs.engine.Engine.append_fetching.Given as given
@@ -126,8 +127,9 @@ invariant_of-self-2 g c =
     let of_log = c.bring_into.ensures.kept (log_of s) c.self.invariant.pool_of_log in
     let table = c.self.invariant.table_of_log in
     let noted = c.note_in_room.ensures s.log table come.may_follow in
-    let back = c.add.ensures.log s.log r (c.make_room-else-is_err.ensures.same ∙ c.self.invariant.returns_of_log)
-    (c.return_of-back.ensures s.log table come.may_follow) in
+    let back = c.add.ensures.log s.log r
+    (subst (HasReturns s.log) (sym c.make_room-else-is_err.ensures.same) c.self.invariant.returns_of_log)
+    come.may_follow (c.return_of-back.ensures s.log table come.may_follow) in
     after_fetch stored s (engine_view stored it.log c.bring_into.new.pool media).state _ c.args.page it.txns.table c.note_in_room.new.self.table
     it.pool c.bring_into.new.pool c.change.new.self media c.add.new.self.made r c.self.invariant come within c.requires.page
     (came g c) of_log noted (c.change.ensures.kept (log_of s) of_log (valid_with s r fit come)) back (grown g c)
@@ -139,3 +141,14 @@ returns-clause-ok g c =
     (media_view c.self.inside.master c.self.inside.session c.self.inside.vault.copies c.self.inside.returns.made)).state
     ≡ with_appended (with_page v.state c.args.page) c.args.next) c.self.view_is
     (grown g c ∙ ap (λ (t : EngineState). with_appended t c.args.next) (came g c))
+
+pub returns-clause-store : goal.returns-clause-store
+returns-clause-store g c =
+    let it = c.self.inside in
+    let store = g.S.PageStore in
+    let media = media_view it.master it.session it.vault.copies it.returns.made in
+    let within : c.args.page < length it.pool.states =
+    omega (arith, c.requires.within, ap (λ v. volume_pages v.state) c.self.view_is, c.self.invariant.pool_of_log.pages) in
+    rw (← c.self.view_is)
+    (page_was_asked store.stored store.gave store.wrote store.grew store.failures it.log it.pool media _ c.args.page within _
+    c.bring_into.new.pool.store c.change.ensures.store c.in_ok-bring_into.ensures.store)

@@ -1,9 +1,10 @@
-use Rattle.std.proofs.Common.{◌∙◌, List, sym, ap, subst, arith}
+use Rattle.std.proofs.Common.{[], List, sym, ap, subst, arith}
 use Rattle.log_records.specs.declared.record.Record.{Record}
 use Rattle.log_records.specs.Log.{Log}
 use Rattle.log_rules.proofs.Public.{linked_none}
 use Rattle.buffer_pool.specs.Pool.{IsPoolOf}
-use Rattle.txn_table.specs.Returns.{returns_of}
+use Rattle.txn_table.specs.Returns.{HasReturns}
+use Rattle.txn_table.proofs.Public.{returns_none}
 use Rattle.txn_table.specs.TxnTable.{IsTableOf}
 use Rattle.log_rules.specs.Checkpoint.{open_checkpoint}
 use Rattle.std.specs.Option.{option_map}
@@ -31,8 +32,9 @@ invariant_of-result g c =
           (c.in-Ok.ensures.empty n c.requires.formatted);
       session_of_log = sym (ap (λ (l : Log). option_map (session_of l pages_left)
           (open_checkpoint l.records)) c.in-Ok-new.ensures.empty);
-      returns_of_log = c.new-in-Ok-new-2.ensures
-          ∙ sym (ap (λ (l : Log). returns_of l.records) c.in-Ok-new.ensures.empty);
+      returns_of_log =
+          subst (λ (l : Log). HasReturns l.records c.new-in-Ok-new-2.result.made) (sym c.in-Ok-new.ensures.empty)
+          (subst (HasReturns []) (sym c.new-in-Ok-new-2.ensures) returns_none);
     }
 
 pub returns-in-Ok-new-clause-empty : goal.returns-in-Ok-new-clause-empty

@@ -1,13 +1,12 @@
 use Rattle.std.proofs.Common.{◌∙◌, List, sym, ap, subst}
 use Rattle.std.specs.Option.{option_map}
 use Rattle.page_core.specs.declared.page.Page.{Page}
-use Rattle.log_records.specs.declared.record.Record.{Record}
 use Rattle.log_records.specs.Log.{Log}
 use Rattle.log_rules.specs.Checkpoint.{open_checkpoint}
 use Rattle.buffer_pool.specs.Pool.{IsPoolOf, clean_pool}
-use Rattle.txn_table.specs.Returns.{returns_of}
+use Rattle.txn_table.specs.Returns.{HasReturns}
 use Rattle.txn_table.specs.TxnTable.{IsTableOf}
-use Rattle.copy_coverage.specs.Retired.{HasRoomForUndo}
+use Rattle.txn_table.proofs.Public.{returns_ended}
 use Rattle.engine_rules.specs.EngineState.{EngineState, IsFit, log_of}
 use Rattle.engine_rules.specs.Gather.{session_of}
 use Rattle.aries_core.specs.OpenCkpt.{media_view}
@@ -16,31 +15,37 @@ use Rattle.aries_core.proofs.engine.Engine.resume.Goals as goal
 
 pub returns-clause-state : goal.returns-clause-state
 returns-clause-state g c =
-    resumed_is g.S.PageStore.stored c.resume-2.result c.in-Ok-resume.pool c.args.store c.args.legacy.log c.args.frames
-    (media_view c.checkpoints_of-last.result.last c.session_of.result c.args.legacy.vault.copies c.in-Ok.tables.1.made)
+    let known = c.args.legacy.checkpoints in
+    resumed_is g.S.PageStore.stored c.resume-2.result c.in-Ok.pool c.args.store c.args.legacy.log c.args.frames
+    (media_view known.last c.session_of.result c.args.legacy.vault.copies c.new.result.made)
     c.resume-2.ensures.log c.resume-2.ensures.forced_end
-    (c.in-Ok-resume.ensures.clean ∙ ap (λ (ps : List Page). clean_pool c.args.store ps c.args.frames) c.requires.pages)
-    (c.requires.stored ∙ c.requires.pages) (c.session_of.ensures ∙ c.checkpoints_of-last.ensures.«open»)
+    (c.in-Ok.ensures.clean ∙ ap (λ (ps : List Page). clean_pool c.args.store ps c.args.frames) c.requires.pages)
+    (c.requires.stored ∙ c.requires.pages) (c.session_of.ensures ∙ c.requires.checkpoints.begun)
 
 pub invariant_of-result : goal.invariant_of-result
 invariant_of-result g c =
     let log = c.args.legacy.log in
+    let known = c.args.legacy.checkpoints in
     let stored = g.S.PageStore.stored in
     let state = returns-clause-state g c in
     let log_is = c.resume-2.ensures.log in
-    let records = c.records.ensures.records in
-    let valid = c.records.ensures.valid in
+    let valid = c.records-records.ensures.valid in
+    let may = c.requires.may in
+    let table : IsTableOf log.records c.ended.result.table = record {
+      linked = may.linked;
+      few = valid.count;
+      made = c.ended.ensures log.records may.closed c.requires.begun;
+    } in
+    let returns : HasReturns log.records c.new.result.made =
+    subst (HasReturns log.records) (sym c.new.ensures) (returns_ended log.records may.linked may.closed) in
     record {
-      fit = subst IsFit (sym state) (resumed_fit log c.args.frames c.checkpoints_of-last.result.last
-          c.args.legacy.vault.copies valid c.requires.may
-          (subst HasRoomForUndo records c.in-Ok.ensures.room) c.checkpoints_of-last.ensures.last);
-      table_of_log = subst (λ (l : Log). IsTableOf l.records c.in-Ok.tables.0.table) (sym log_is)
-          (subst (λ (rs : List Record). IsTableOf rs c.in-Ok.tables.0.table) records c.in-Ok.ensures.table);
-      pool_of_log = subst (λ (l : Log). IsPoolOf stored l c.in-Ok-resume.pool) (sym log_is)
-          (c.in-Ok-resume.ensures.of_log log valid c.requires.pages);
-      session_of_log = c.session_of.ensures ∙ c.checkpoints_of-last.ensures.«open»
+      fit = subst IsFit (sym state) (resumed_fit log c.args.frames known.last c.args.legacy.vault.copies valid may
+          c.requires.checkpoints.last);
+      table_of_log = subst (λ (l : Log). IsTableOf l.records c.ended.result.table) (sym log_is) table;
+      pool_of_log = subst (λ (l : Log). IsPoolOf stored l c.in-Ok.pool) (sym log_is)
+          (c.in-Ok.ensures.of_log log valid c.requires.pages);
+      session_of_log = c.session_of.ensures ∙ c.requires.checkpoints.begun
           ∙ session_for log (open_checkpoint log.records)
           ∙ ap (λ (s : EngineState). option_map (session_of (log_of s) s.left) (open_checkpoint s.log)) (sym state);
-      returns_of_log = c.in-Ok.ensures.returns ∙ ap returns_of records
-          ∙ ap (λ (l : Log). returns_of l.records) (sym log_is);
+      returns_of_log = subst (λ (l : Log). HasReturns l.records c.new.result.made) (sym log_is) returns;
     }

@@ -11,7 +11,7 @@ use Rattle.aries_core.specs.Fetching.{with_before}
 use Rattle.aries_core.specs.OpenCkpt.{media_view}
 use Rattle.aries_core.proofs.Appends.{after_fetch, appended_is, valid_with}
 use Rattle.aries_core.proofs.Asks.{brought_is, said}
-use Rattle.aries_core.proofs.Returned.{returns_stay}
+use Rattle.txn_table.proofs.Public.{returns_stay}
 use Rattle.aries_core.proofs.Updates.{update_comes, update_is}
 use Rattle.aries_core.proofs.engine.Engine.update.Given as given
 use Rattle.aries_core.proofs.engine.Engine.update.Goals as goal
@@ -168,7 +168,7 @@ invariant_of-self-2 g c =
     c.note_in_room.new.self.table it.pool c.bring_into.new.pool c.change.new.self media it.returns.made next
     c.self.invariant come within refl (came g c) of_log noted
     (c.change.ensures.kept (log_of s) of_log (valid_with s next c.self.invariant.fit come))
-    (c.self.invariant.returns_of_log ∙ sym (returns_stay s.log next refl)) (grown g c)
+    (returns_stay s.log next it.returns.made refl come.may_follow c.self.invariant.returns_of_log) (grown g c)
 
 pub returns-clause-ok : goal.returns-clause-ok
 returns-clause-ok g c =

@@ -1,6 +1,7 @@
 use Rattle.std.proofs.Common.{rules}
 use Rattle.engine_calls.specs.declared.event.Answer.TheVariants as answer
 use Rattle.engine_calls.specs.declared.event.Event.TheVariants as event
+use Rattle.engine_run.proofs.Quiet.{add_forces_none}
 use Rattle.engine_run.proofs.Replied.{replied}
 use Rattle.engine_run.proofs.held.Held.add.Goals as goal
 
@@ -9,7 +10,8 @@ returns-then-is_ok-clause-replies g c =
     let old = c.self.inside.engine in
     let new = c.add-result.new.self in
     replied g.S.PageStore g.D.LogDevice old new (event.Add c.args.txn c.args.page c.args.slot c.args.amount) answer.Logged c.add-result.result
-    c.log_end.ensures.fit c.add-result.ensures.step (search rules) (search rules) c.log.ensures.pages
+    c.log_end.ensures.fit c.add-result.ensures.step (search rules)
+    (add_forces_none g.D.LogDevice old new c.add-result.ensures.device c.args.txn c.args.page c.args.slot c.args.amount c.add-result.result c.add-result.ensures.step) c.log.ensures.pages
     c.log.ensures.records
 
 pub returns-else-is_ok-clause-replies : goal.returns-else-is_ok-clause-replies
@@ -17,5 +19,6 @@ returns-else-is_ok-clause-replies g c =
     let old = c.self.inside.engine in
     let new = c.add-result.new.self in
     replied g.S.PageStore g.D.LogDevice old new (event.Add c.args.txn c.args.page c.args.slot c.args.amount) answer.Logged c.add-result.result
-    c.log_end.ensures.fit c.add-result.ensures.step (search rules) (search rules) c.log.ensures.pages
+    c.log_end.ensures.fit c.add-result.ensures.step (search rules)
+    (add_forces_none g.D.LogDevice old new c.add-result.ensures.device c.args.txn c.args.page c.args.slot c.args.amount c.add-result.result c.add-result.ensures.step) c.log.ensures.pages
     c.log.ensures.records

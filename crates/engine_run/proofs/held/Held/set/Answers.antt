@@ -1,6 +1,7 @@
 use Rattle.std.proofs.Common.{rules}
 use Rattle.engine_calls.specs.declared.event.Answer.TheVariants as answer
 use Rattle.engine_calls.specs.declared.event.Event.TheVariants as event
+use Rattle.engine_run.proofs.Quiet.{set_forces_none}
 use Rattle.engine_run.proofs.Replied.{replied}
 use Rattle.engine_run.proofs.held.Held.set.Goals as goal
 
@@ -9,7 +10,8 @@ returns-then-is_ok-clause-replies g c =
     let old = c.self.inside.engine in
     let new = c.set-result.new.self in
     replied g.S.PageStore g.D.LogDevice old new (event.Set c.args.txn c.args.page c.args.slot c.args.number) answer.Logged c.set-result.result
-    c.log_end.ensures.fit c.set-result.ensures.step (search rules) (search rules) c.log.ensures.pages
+    c.log_end.ensures.fit c.set-result.ensures.step (search rules)
+    (set_forces_none g.D.LogDevice old new c.set-result.ensures.device c.args.txn c.args.page c.args.slot c.args.number c.set-result.result c.set-result.ensures.step) c.log.ensures.pages
     c.log.ensures.records
 
 pub returns-else-is_ok-clause-replies : goal.returns-else-is_ok-clause-replies
@@ -17,5 +19,6 @@ returns-else-is_ok-clause-replies g c =
     let old = c.self.inside.engine in
     let new = c.set-result.new.self in
     replied g.S.PageStore g.D.LogDevice old new (event.Set c.args.txn c.args.page c.args.slot c.args.number) answer.Logged c.set-result.result
-    c.log_end.ensures.fit c.set-result.ensures.step (search rules) (search rules) c.log.ensures.pages
+    c.log_end.ensures.fit c.set-result.ensures.step (search rules)
+    (set_forces_none g.D.LogDevice old new c.set-result.ensures.device c.args.txn c.args.page c.args.slot c.args.number c.set-result.result c.set-result.ensures.step) c.log.ensures.pages
     c.log.ensures.records

@@ -1,6 +1,9 @@
 -- What is owed after the next record.
-use Rattle.std.proofs.Common.{arith}
-use Rattle.txn_table.proofs.Owed.{table_step}
+use Rattle.std.proofs.Common.{ℕ, ◌≡◌, ◌∙◌, ◌++◌, [], ◌∷◌, arith, refl, sym}
+use Rattle.log_records.specs.declared.record.Record.{Record}
+use Rattle.log_records.specs.declared.record.Record.TheVariants.{Begin, Update, Comp, Commit, Abort, End}
+use Rattle.log_rules.specs.Transactions.{owed}
+use Rattle.txn_table.proofs.Owed.{OwedStep, table_step}
 use Rattle.txn_table.proofs.Viewed.{table_is}
 use Rattle.txn_table.proofs.table.TxnTable.owed_after.Goals as goal
 
@@ -108,55 +111,22 @@ returns-in-Abort c rs of may =
     let step = s.step in
     omega arith
 
-pub returns-in-BeginChkpt : goal.returns-in-BeginChkpt
-returns-in-BeginChkpt c rs of may =
+pub returns-in_default : goal.returns-in_default
+returns-in_default c rs of may =
     let s =
-    table_step c.self.inside.open.table c.args.self.now.table c.self.inside.owed rs c.args.next.now _
-    (table_is c.self.view_is) c.self.invariant of may c.in-BeginChkpt.is in
-    let before = s.before in
-    let few = s.few in
-    let step = s.step in
-    omega arith
-
-pub returns-in-ChkptPages : goal.returns-in-ChkptPages
-returns-in-ChkptPages c rs of may =
-    let s =
-    table_step c.self.inside.open.table c.args.self.now.table c.self.inside.owed rs c.args.next.now _
-    (table_is c.self.view_is) c.self.invariant of may c.in-ChkptPages.is in
-    let before = s.before in
-    let few = s.few in
-    let step = s.step in
-    omega arith
-
-pub returns-in-ChkptTxns : goal.returns-in-ChkptTxns
-returns-in-ChkptTxns c rs of may =
-    let s =
-    table_step c.self.inside.open.table c.args.self.now.table c.self.inside.owed rs c.args.next.now _
-    (table_is c.self.view_is) c.self.invariant of may c.in-ChkptTxns.is in
-    let before = s.before in
-    let few = s.few in
-    let step = s.step in
-    omega arith
-
-pub returns-in-EndChkpt : goal.returns-in-EndChkpt
-returns-in-EndChkpt c rs of may =
-    let s =
-    table_step c.self.inside.open.table c.args.self.now.table c.self.inside.owed rs c.args.next.now _
-    (table_is c.self.view_is) c.self.invariant of may c.in-EndChkpt.is in
-    let before = s.before in
-    let few = s.few in
-    let step = s.step in
-    omega arith
-
-pub returns-in-Extend : goal.returns-in-Extend
-returns-in-Extend c rs of may =
-    let s =
-    table_step c.self.inside.open.table c.args.self.now.table c.self.inside.owed rs c.args.next.now _
-    (table_is c.self.view_is) c.self.invariant of may c.in-Extend.is in
-    let before = s.before in
-    let few = s.few in
-    let step = s.step in
-    omega arith
+    table_step c.self.inside.open.table c.args.self.now.table c.self.inside.owed rs c.args.next.now c.args.next.now
+    (table_is c.self.view_is) c.self.invariant of may refl in
+    s.before ∙ sym (by c.args.next.now refl s.step)
+  where
+    by : (r : Record) → c.args.next.now ≡ r → OwedStep rs (owed (rs ++ c.args.next.now ∷ [])) r
+        → owed (rs ++ c.args.next.now ∷ []) ≡ owed rs
+    by (Begin lsn t) is step = absurd (c.in_default.not-Begin lsn t is)
+    by (Update lsn t prev page slot change) is step = absurd (c.in_default.not-Update lsn t prev page slot change is)
+    by (Comp lsn t prev undo page slot change) is step = absurd (c.in_default.not-Comp lsn t prev undo page slot change is)
+    by (Abort lsn t prev) is step = absurd (c.in_default.not-Abort lsn t prev is)
+    by (Commit lsn t prev) is step = absurd (c.in_default.not-Commit lsn t prev is)
+    by (End lsn t prev) is step = absurd (c.in_default.not-End lsn t prev is)
+    by other is step = step
 
 pub returns-in-Commit : goal.returns-in-Commit
 returns-in-Commit c rs of may =
