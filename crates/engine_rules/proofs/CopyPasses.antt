@@ -1,5 +1,5 @@
 -- When calls on copies, and a repair, are not refused.
-use Rattle.std.proofs.Common.{◌≡◌, ℕ, ◌<◌, Bool, true, false, not, length}
+use Rattle.std.proofs.Common.{◌≡◌, ℕ, ◌<◌, Bool, true, false, length}
 use Rattle.std.proofs.Common.{refl, subst}
 use Rattle.std.specs.Prelude.{Option, Some, None, IsSome, is_none, nat_le, nat_lt}
 use Rattle.std.specs.Prelude.{List, if◌then◌else◌}

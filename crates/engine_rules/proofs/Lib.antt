@@ -25,6 +25,7 @@ pub mod Refusals
 pub mod Residents
 pub mod Resuming
 pub mod Rooms
+pub mod RunRooms
 pub mod Runs
 pub mod Stands
 pub mod Steps

@@ -1,12 +1,10 @@
 -- An engine as contracts see it: its state, with its page store and its log's device.
-use Rattle.std.specs.Prelude.{◌≡◌, ◌-◌, take, take, List, length}
+use Rattle.std.specs.Prelude.{◌≡◌, take, List, length}
 use Rattle.std.specs.Prelude.{Option}
 use Rattle.std.specs.Option.{option_map, option_map_or}
 use Rattle.buffer_pool.specs.Pool.{IsPoolOf, PoolView, writing_of, written_of}
 use Rattle.log_rules.specs.Checkpoint.{open_checkpoint}
-use Rattle.log_records.specs.declared.record.Record.TheVariants as log
 use Rattle.page_core.specs.declared.page.Page.{Page}
-use Rattle.log_records.specs.Image.{image}
 use Rattle.log_rules.specs.Table.{Table}
 use Rattle.log_store.specs.WrittenLog.{WrittenLog}
 use Rattle.txn_table.specs.declared.returns.Return.{Return}

@@ -11,6 +11,7 @@ ghost use Rattle.log_records.specs.Log.{IsPageCount, Log};
 ghost use Rattle.log_rules.specs.Transactions.{is_open, last_lsn, owed};
 ghost use Rattle.log_rules.specs.Work.{work};
 ghost use Rattle.copy_coverage.specs.Kept.{IsKeptOf};
+ghost use Rattle.copy_coverage.specs.Retired.{HasRoomForUndo};
 ghost use Rattle.engine_rules.specs.Accepted.{accepted};
 ghost use Rattle.engine_rules.specs.AnsweredCommits.{AnsweredCommit, StandsIn, answered_commits};
 ghost use Rattle.engine_rules.specs.EngineState.{EngineState, IsFit, effect, log_of, new_state};
@@ -54,6 +55,19 @@ pub fn pages_in_memory_are_few_and_distinct()
         (replies : List (Result Answer Refusal)) (new : EngineState) → IsPageCount pages
         → All EventFits events → Run (new_state pages frames) events replies new
         → IsDistinct nat_eq (map (λ page. page.number) new.resident) }
+{}
+
+/// There is room to take back what is open wherever a log may be cut: at each place of a new
+/// engine's log, whatever calls came; and of one that goes on from an older log, at each place that
+/// has all before it which was forced when it began.
+pub fn there_is_room_at_each_place()
+    ensures new { (pages frames : ℕ) (events : List Event) (replies : List (Result Answer Refusal))
+        (new : EngineState) → IsPageCount pages → All EventFits events
+        → Run (new_state pages frames) events replies new → HasRoomForUndo new.log 0 }
+    ensures later { (old : EngineState) (events : List Event)
+        (replies : List (Result Answer Refusal)) (new : EngineState) → IsFit old
+        → All EventFits events → Run old events replies new
+        → HasRoomForUndo new.log old.forced_end }
 {}
 
 /// LogFull is answered exactly where the log's records and those that open transactions may still
