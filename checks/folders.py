@@ -145,7 +145,7 @@ def backups(folders):
 
 def backups_refused(folders, folder):
     done = folders.run("backup", folder, "--full", "--on", "1")
-    is_told = done.stderr.decode().endswith(f"imgcopy: {folder}: --on and --full exclude one another\n")
+    is_told = done.stderr.decode().splitlines()[0] == "error: the argument '--on <N>' cannot be used with '--full'"
     folders.wants("--full beside --on", done.returncode == 2 and is_told and not done.stdout, done)
     copies = sorted(sums_of(folder))
     done = folders.run("backup", folder, "--on", "9")

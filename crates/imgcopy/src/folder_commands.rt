@@ -5,11 +5,17 @@ use open_database::{BackupCall, OpenEnd, RenewCall, backup_folder, renew_folder}
 use script_run::FAULT_STATUS;
 use std::process::ExitCode;
 
+/// What is told where a copy is to stand on another one, and on none.
+const ON_AND_FULL: &str = "\
+error: the argument '--on <N>' cannot be used with '--full'
+
+For more information, try '--help'.";
+
 /// Makes a checkpoint and an image copy of the closed database in this folder: on the copy of this
 /// number, or on the newest one, or a full copy.
 pub(crate) fn backup(rt: &HostRuntime, call: &BackupCall<'_>) -> ExitCode {
     if call.full && call.on.is_some() {
-        tell(rt, call.folder, &"--on and --full exclude one another");
+        let _ = eprintln!(rt; "{ON_AND_FULL}");
         return ExitCode::from(FAULT_STATUS);
     }
     status_of(backup_folder(rt, call))
