@@ -371,7 +371,7 @@ fn run(
         Vec::new(rt.alloc()),
         most,
     );
-    let mut writer = Tallied::new(noted(patient(rt, io::writer(rt)), &output));
+    let mut writer = Tallied::new(noted(patient(rt, io::writer(rt)), &output), strict);
     let status = match played(rt, threads, setup, save, &mut reader, &mut writer) {
         Ok(status) => status,
         Err(fault) => {
@@ -381,7 +381,7 @@ fn run(
         }
     };
     match writer.tally().first_refused() {
-        Some(place) if strict => {
+        Some(place) => {
             let refusals = Refusals {
                 tally: writer.tally(),
                 line: line_of_call(reader.given(), place),
@@ -389,7 +389,7 @@ fn run(
             let _ = rt.eprintln(&refusals);
             ExitCode::from(strict_status(status))
         }
-        _ => ExitCode::from(status),
+        None => ExitCode::from(status),
     }
 }
 

@@ -57,17 +57,20 @@ impl<R: Read> Read for Kept<R> {
     }
 }
 
-/// A writer of replies that counts their lines, and those of refusals, which begin with an E.
+/// A writer of replies. Where it is asked to, it counts their lines, and those of refusals, which
+/// begin with an E.
 #[derive(Drop)]
 pub struct Tallied<W> {
     writer: W,
+    counts: bool,
     tally: Tally,
 }
 
 impl<W> Tallied<W> {
-    pub fn new(writer: W) -> Tallied<W> {
+    pub fn new(writer: W, counts: bool) -> Tallied<W> {
         Tallied {
             writer,
+            counts,
             tally: Tally::new(),
         }
     }
@@ -80,6 +83,9 @@ impl<W> Tallied<W> {
 impl<W: Write> Write for Tallied<W> {
     fn write(&mut self, buf: &[u8]) -> io::Result<usize> {
         let count = self.writer.write(buf)?;
+        if !self.counts {
+            return Ok(count);
+        }
         if let Some(taken) = buf.get(..count) {
             for byte in taken {
                 self.tally.take(*byte);

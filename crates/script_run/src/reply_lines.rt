@@ -1,9 +1,8 @@
 //! The lines that report replies.
 
-ghost use Rattle.std.specs.Prelude.{◌≡◌, ◌++◌, IfSome, Ok, OnOk, codes};
+ghost use Rattle.std.specs.Prelude.{◌≡◌, ◌++◌, IfSome, OnOk};
 ghost use Rattle.std.specs.Fmt.{decimal};
 ghost use Rattle.std.specs.String.{string_bytes};
-ghost use Rattle.engine_calls.specs.declared.event.Answer.TheVariants.{Logged};
 ghost use Rattle.event_script.specs.Reply.{line_of_reply};
 ghost use Rattle.script_run.specs.PageLines.{ended};
 
@@ -12,14 +11,14 @@ use event_script::ReplyLine;
 use itoa::Buffer;
 use std::alloc::AllocError;
 
-/// Puts the line of a reply behind a text. Most replies of a long script are the LSN of a change,
-/// whose line is put together here.
+/// Puts the line of a reply behind a text. Most replies of a long script are a word and a number,
+/// and their lines are put together here.
 pub(crate) fn put_reply(text: &mut String, reply: Reply) -> Result<(), AllocError>
     ensures { OnOk result
         (string_bytes text.new ≡ string_bytes text.old ++ ended (line_of_reply reply)) }
 {
-    match logged_at(&reply) {
-        Some(lsn) => put_lsn(text, lsn),
+    match word_and_number(&reply) {
+        Some((word, number)) => put_number(text, word, number),
         None => {
             let line = ReplyLine(reply);
             writeln!(text, "{line}")
@@ -27,23 +26,31 @@ pub(crate) fn put_reply(text: &mut String, reply: Reply) -> Result<(), AllocErro
     }
 }
 
-/// The LSN that a reply answers of a change.
-fn logged_at(reply: &Reply) -> Option<u64>
-    ensures { IfSome result (λ lsn. reply.now ≡ Ok (Logged lsn)) }
+/// The word, with a space behind it, and the number that are the line of a frequent reply.
+fn word_and_number(reply: &Reply) -> Option<(&'static str, u64)>
+    ensures { IfSome result (λ it. line_of_reply reply.now ≡ it.0.now ++ decimal it.1) }
 {
-    match reply {
-        Ok(Answer::Logged(lsn)) => Some(lsn.0),
+    let Ok(answer) = reply else {
+        return None;
+    };
+    match answer {
+        Answer::Logged(lsn) => Some(("lsn ", lsn.0)),
+        Answer::Number(number) => Some(("value ", *number)),
+        Answer::Undid(lsn) => Some(("undid ", lsn.0)),
+        Answer::Writing(lsn) => Some(("writing ", lsn.0)),
+        Answer::Written(lsn) => Some(("written ", lsn.0)),
+        Answer::Taken(lsn) => Some(("taken ", lsn.0)),
         _ => None,
     }
 }
 
-/// Puts the line of a change's LSN behind a text.
-fn put_lsn(text: &mut String, lsn: u64) -> Result<(), AllocError>
+/// Puts a line of a word and a number behind a text.
+fn put_number(text: &mut String, word: &str, number: u64) -> Result<(), AllocError>
     ensures { OnOk result (string_bytes text.new
-        ≡ string_bytes text.old ++ ended (codes "lsn " ++ decimal lsn)) }
+        ≡ string_bytes text.old ++ ended (word.now ++ decimal number)) }
 {
     let mut digits = Buffer::new();
-    text.push_str("lsn ")?;
-    text.push_str(digits.format(lsn))?;
+    text.push_str(word)?;
+    text.push_str(digits.format(number))?;
     text.push_str("\n")
 }
