@@ -70,28 +70,22 @@ pub(crate) fn args_of(bytes: &[u8]) -> Option<Args>
 fn plain_call(name: &[u8]) -> Option<Event>
     ensures { result ≡ entry_of plain_calls name.now }
 {
-    if name == b"begin".as_slice() {
-        Some(Event::Begin)
-    } else if name == b"force".as_slice() {
-        Some(Event::Force)
-    } else if name == b"full".as_slice() {
-        Some(Event::CopyFull)
-    } else {
-        None
+    match name {
+        b"begin" => Some(Event::Begin),
+        b"force" => Some(Event::Force),
+        b"full" => Some(Event::CopyFull),
+        _ => None,
     }
 }
 
 fn checkpoint_call(name: &[u8]) -> Option<Event>
     ensures { result ≡ entry_of checkpoint_calls name.now }
 {
-    if name == b"ckpt".as_slice() {
-        Some(Event::CkptBegin)
-    } else if name == b"gather".as_slice() {
-        Some(Event::CkptGather)
-    } else if name == b"endckpt".as_slice() {
-        Some(Event::CkptEnd)
-    } else {
-        None
+    match name {
+        b"ckpt" => Some(Event::CkptBegin),
+        _ if name == b"gather".as_slice() => Some(Event::CkptGather),
+        _ if name == b"endckpt".as_slice() => Some(Event::CkptEnd),
+        _ => None,
     }
 }
 
@@ -108,16 +102,12 @@ fn call_of_txn(name: &[u8], number: u32) -> Option<Event>
     ensures { result ≡ called (entry_of txn_calls name.now) number }
 {
     let txn = TxnNo(number);
-    if name == b"commit".as_slice() {
-        Some(Event::Commit(txn))
-    } else if name == b"abort".as_slice() {
-        Some(Event::Abort(txn))
-    } else if name == b"undo".as_slice() {
-        Some(Event::UndoStep(txn))
-    } else if name == b"save".as_slice() {
-        Some(Event::Savepoint(txn))
-    } else {
-        None
+    match name {
+        b"abort" => Some(Event::Abort(txn)),
+        b"undo" => Some(Event::UndoStep(txn)),
+        b"save" => Some(Event::Savepoint(txn)),
+        _ if name == b"commit".as_slice() => Some(Event::Commit(txn)),
+        _ => None,
     }
 }
 
@@ -125,12 +115,10 @@ fn call_of_page(name: &[u8], number: u32) -> Option<Event>
     ensures { result ≡ called (entry_of page_calls name.now) number }
 {
     let page = PageNo(number);
-    if name == b"wbegin".as_slice() {
-        Some(Event::WriteBegin(page))
-    } else if name == b"wend".as_slice() {
-        Some(Event::WriteEnd(page))
-    } else {
-        None
+    match name {
+        b"wend" => Some(Event::WriteEnd(page)),
+        _ if name == b"wbegin".as_slice() => Some(Event::WriteBegin(page)),
+        _ => None,
     }
 }
 
@@ -138,14 +126,11 @@ fn call_of_copy(name: &[u8], number: u32) -> Option<Event>
     ensures { result ≡ called (entry_of copy_calls name.now) number }
 {
     let copy = CopyId(number);
-    if name == b"inc".as_slice() {
-        Some(Event::CopyInc(copy))
-    } else if name == b"seal".as_slice() {
-        Some(Event::Seal(copy))
-    } else if name == b"drop".as_slice() {
-        Some(Event::DropCopy(copy))
-    } else {
-        None
+    match name {
+        b"inc" => Some(Event::CopyInc(copy)),
+        b"seal" => Some(Event::Seal(copy)),
+        b"drop" => Some(Event::DropCopy(copy)),
+        _ => None,
     }
 }
 
@@ -180,12 +165,10 @@ fn call_of_copied_page(name: &[u8], copy: u64, page: u64) -> Option<Event>
 {
     let copy = CopyId(u32::try_from(copy).ok()?);
     let page = PageNo(u32::try_from(page).ok()?);
-    if name == b"take".as_slice() {
-        Some(Event::Take { copy, page })
-    } else if name == b"repair".as_slice() {
-        Some(Event::Repair { copy, page })
-    } else {
-        None
+    match name {
+        b"take" => Some(Event::Take { copy, page }),
+        _ if name == b"repair".as_slice() => Some(Event::Repair { copy, page }),
+        _ => None,
     }
 }
 
@@ -210,12 +193,10 @@ fn undo_to_of(txn: u64, savepoint: u64) -> Option<Event>
 fn call_of_two(name: &[u8], first: u64, second: u64) -> Option<Event>
     ensures { result ≡ call_of_two name.now first second }
 {
-    if name == b"read".as_slice() {
-        read_of(first, second)
-    } else if name == b"undoto".as_slice() {
-        undo_to_of(first, second)
-    } else {
-        call_of_copied_page(name, first, second)
+    match name {
+        b"read" => read_of(first, second),
+        _ if name == b"undoto".as_slice() => undo_to_of(first, second),
+        _ => call_of_copied_page(name, first, second),
     }
 }
 

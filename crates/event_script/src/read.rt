@@ -1,7 +1,8 @@
 //! Reads a script.
 
 ghost use Rattle.std.specs.Prelude.{ℕ, ◌≡◌, List, [], ◌∷◌, ◌++◌, IfOk, IfErr, OnOk, IfSome};
-ghost use Rattle.std.specs.Prelude.{if◌then◌else◌};
+ghost use Rattle.std.specs.Prelude.{if◌then◌else◌, IsTrue, ◌↔◌};
+ghost use Rattle.std.specs.Str.{IsAscii, IsUtf8};
 ghost use Rattle.std.specs.Io.KnownBytes.{IsAtEnd};
 ghost use Rattle.event_script.specs.Script.{said_in};
 ghost use Rattle.event_script.specs.Read.{GaveNoFault, IsText, Refuses};
@@ -15,6 +16,24 @@ use crate::script::Script;
 use crate::words::next_line;
 use std::alloc::{AllocError, Global};
 use std::io::Read;
+
+/// Whether each byte is ASCII, so that the bytes are UTF-8. There is no branch for each of them.
+fn is_ascii(bytes: &[u8]) -> bool
+    ensures { IsTrue result → IsAscii bytes.now }
+{
+    let mut most = 0;
+    for byte in bytes {
+        most = most.max(*byte);
+    }
+    most < 128
+}
+
+/// Whether the bytes are UTF-8.
+fn is_utf8(bytes: &[u8]) -> bool
+    ensures { IsTrue result ↔ IsUtf8 bytes.now }
+{
+    is_ascii(bytes) || str::from_utf8(bytes).is_ok()
+}
 
 /// Takes what a line says into the script so far, and tells whether it may stand there.
 fn take_line(script: &mut Script, line: &[u8]) -> Result<bool, AllocError>
@@ -50,6 +69,7 @@ fn script_in(alloc: Global, input: &[u8]) -> Result<Script, ScriptFault>
     let mut script = Script {
         events: Vec::new(alloc),
         restore: None,
+        room: String::new(alloc),
     };
     let mut left = Some(input);
     let mut number = 0;
@@ -87,13 +107,15 @@ pub fn read_script<R: Read>(alloc: Global, reader: &mut R) -> Result<Script, Scr
     ensures unread { IfErr result (GaveNoFault (R.remaining reader.old) (R.remaining reader.new)) }
 {
     let mut input = read_input(alloc, reader)?;
-    if str::from_utf8(&input).is_err() {
+    if !is_utf8(&input) {
         return Err(ScriptFault::Input);
     }
-    let read = script_in(alloc, &input);
+    let mut script = script_in(alloc, &input)?;
     // After a large block is freed, the C library's heap holds blocks of that size, and copies them
-    // to new pages as they grow. So the input is small when it is freed.
+    // to new pages as they grow. So the caller gets the block.
     input.clear();
-    input.shrink_to(1);
-    read
+    if let Ok(room) = String::from_utf8(input) {
+        script.room = room;
+    }
+    Ok(script)
 }

@@ -17,4 +17,6 @@ pub struct LastRestore {
 pub struct Script {
     pub events: Vec<Event>,
     pub restore: Option<LastRestore>,
+    /// Memory that was touched: that of the script's bytes, for what is made next.
+    pub room: String,
 }

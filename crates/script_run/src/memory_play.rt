@@ -20,11 +20,13 @@ use page_store::MemStore;
 use std::alloc::{AllocError, Global};
 
 /// Plays events on a new engine, and answers the lines of its replies and what it leaves. The log
-/// has room for a record for each event, so neither the device nor the store ever fails.
+/// has room for a record for each event, so neither the device nor the store ever fails. The lines
+/// take the memory of a text that is no longer needed.
 pub(crate) fn play_in_memory(
     alloc: Global,
     setup: Setup,
     events: &[Event],
+    room: String,
 ) -> Result<(String, Retired), AllocError>
     requires pages { IsPageCount setup.pages }
     requires frames { IsFrameCount setup.frames }
@@ -40,7 +42,8 @@ pub(crate) fn play_in_memory(
         Err((PlayFault::OutOfMemory, _)) => return Err(AllocError),
         Err((PlayFault::LogFault, _)) => unreachable!(),
     };
-    let mut text = String::new(alloc);
+    let mut text = room;
+    text.clear();
     for event in events {
         put_reply(&mut text, engine.apply(*event))?;
     }

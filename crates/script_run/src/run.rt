@@ -52,7 +52,8 @@ pub fn run_script<R: Read, W: Write>(
         Ok(script) => script,
         Err(fault) => return Err(RunFault::Script(fault)),
     };
-    let Ok((lines, retired)) = play_in_memory(alloc, setup, &script.events) else {
+    let room = script.room;
+    let Ok((lines, retired)) = play_in_memory(alloc, setup, &script.events, room) else {
         return Err(RunFault::OutOfMemory);
     };
     if let Err(fault) = write_lines(&lines, writer) {
