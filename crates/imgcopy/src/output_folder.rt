@@ -152,6 +152,8 @@ impl<'a> Folder for OutputFolder<'a> {
 
     ghost is_stored = { λ _. Unit {0} };
 
+    ghost may_leave = { λ _ _ _. Unit {0} };
+
     ghost given_up = { λ _. None };
 
     ghost holds = { λ _. None };
@@ -197,4 +199,8 @@ impl<'a> Folder for OutputFolder<'a> {
     fn sync_names(&mut self) -> io::Result<()> {
         self.there.sync_names()
     }
+
+    ghost stands = { λ _. tt };
+
+    ghost lasts = { λ _ _. tt };
 }

@@ -76,6 +76,8 @@ impl<'a> Folder for SystemDatabase<'a> {
 
     ghost is_stored = { λ _. Unit {0} };
 
+    ghost may_leave = { λ _ _ _. Unit {0} };
+
     ghost given_up = { λ _. None };
 
     ghost holds = { λ _. None };
@@ -107,6 +109,10 @@ impl<'a> Folder for SystemDatabase<'a> {
     fn sync_names(&mut self) -> io::Result<()> {
         self.folder.sync_names()
     }
+
+    ghost stands = { λ _. tt };
+
+    ghost lasts = { λ _ _. tt };
 }
 
 impl<'a> DatabaseFolder for SystemDatabase<'a> {

@@ -1,3 +1,4 @@
+mod Crashes
 mod MemFolders
 mod Puts
 mod PutsBoth

@@ -42,7 +42,7 @@ same_here (Some old) = λ n. refl
 
 -- ---- the name beside a name
 
-by_test : (a b : List ℕ) → (a ≡ b) ⊎ (a ≢ b)
+pub by_test : (a b : List ℕ) → (a ≡ b) ⊎ (a ≢ b)
 by_test a b = go (bytes_eq a b) refl
   where
     go : (t : Bool) → bytes_eq a b ≡ t → (a ≡ b) ⊎ (a ≢ b)
@@ -99,7 +99,7 @@ unsynced_left beside name contents a b = so a b (λ old new kept. record {
 -- ---- what is put in its place
 
 -- what went out to a file that had no bytes
-same_start : (gives : Writing) (empty last held : Option (List ℕ)) → empty ≡ Some [] → held ≡ last
+pub same_start : (gives : Writing) (empty last held : Option (List ℕ)) → empty ≡ Some [] → held ≡ last
     → gives empty last → gives (Some []) held
 same_start gives empty last held none same it =
     subst (λ h. gives (Some []) h) (sym same) (subst (λ e. gives e last) none it)

@@ -59,6 +59,38 @@ IsSame old new = (n : List ℕ) → new n ≡ old n
 abbrev pub RenamesOrKeeps : List ℕ → List ℕ → Entries → Entries → Type 0
 RenamesOrKeeps from to old new = IsRenamed from to old new ⊎ IsSame old new
 
+-- ---- what a crash leaves
+
+-- what a crash may leave under each name, whatever it leaves under the others
+abbrev pub Remains : Type 1
+Remains = List ℕ → FolderEntry → Type 0
+
+-- a crash may leave just these entries
+abbrev pub MayLeave : Remains → Entries → Type 0
+MayLeave remains left = (n : List ℕ) → remains n (left n)
+
+-- a crash may leave all that it might leave before
+abbrev pub LeavesToo : Remains → Remains → Type 0
+LeavesToo before after = (n : List ℕ) (e : FolderEntry) → before n e → after n e
+
+-- all that it might leave before, and else only such entries
+pub record LeavesOnly (such before after : Remains) : Type 0 where
+  pub earlier : LeavesToo before after
+  pub only : (n : List ℕ) (e : FolderEntry) → after n e → before n e ⊎ such n e
+
+-- it had this, or has it now
+abbrev pub HadOrHas : Entries → Entries → Remains
+HadOrHas old new n e = (e ≡ old n) ⊎ (e ≡ new n)
+
+-- a call may be undone by a crash: each name has what might be left under it before, what it had
+-- before the call, or what it has since
+abbrev pub LeavesEither : Remains → Remains → Entries → Entries → Type 0
+LeavesEither before after old new = LeavesOnly (HadOrHas old new) before after
+
+-- a crash leaves what stands, and nothing else
+abbrev pub LeavesAsIs : Remains → Entries → Type 0
+LeavesAsIs remains entries = (n : List ℕ) (e : FolderEntry) → remains n e → e ≡ entries n
+
 -- ---- a file that takes the place of an older one
 
 -- a name that a file has while it is written, beside the name that it is to have
@@ -84,12 +116,26 @@ pub record Puts (name : List ℕ) (fits : List ℕ → Type 0) (old new : Entrie
   pub put : new name ≡ stored bytes
   pub others : KeepsOthers name old new
 
+-- a file of such bytes, whole
+abbrev pub IsWhole : (List ℕ → Type 0) → FolderEntry → Type 0
+IsWhole fits e = (bytes : List ℕ) × fits bytes × (e ≡ stored bytes)
+
 -- the name has what it had, or a file of such bytes, whole
 abbrev pub HasNewOrOld : List ℕ → (List ℕ → Type 0) → Entries → Entries → Type 0
-HasNewOrOld name fits old new =
-    ((bytes : List ℕ) × fits bytes × (new name ≡ stored bytes)) ⊎ (new name ≡ old name)
+HasNewOrOld name fits old new = IsWhole fits (new name) ⊎ (new name ≡ old name)
 
 -- and every other name has what it had, but for an unfinished file where nothing stood
 pub record PutsOrKeeps (name : List ℕ) (fits : List ℕ → Type 0) (old new : Entries) : Type 0 where
   pub either : HasNewOrOld name fits old new
   pub others : KeepsBeside name old new
+
+-- what a name may have meanwhile: what it had; the new file, whole, if it is its name; or an
+-- unfinished file, where nothing stood
+abbrev pub MayHave : List ℕ → (List ℕ → Type 0) → Entries → Remains
+MayHave name fits old n e =
+    (e ≡ old n) ⊎ (((n ≡ name) × IsWhole fits e) ⊎ ((old n ≡ absent) × IsBeside name n))
+
+-- a crash leaves under the name of such a file what it might leave before, what stood there, or the
+-- new file, whole; and under the other ones no more than an unfinished file
+abbrev pub LeavesWhole : List ℕ → (List ℕ → Type 0) → Remains → Remains → Entries → Entries → Type 0
+LeavesWhole name fits before after old new = LeavesOnly (MayHave name fits old) before after

@@ -1,10 +1,10 @@
 -- How a file that was written beside its name comes to its name.
-use Rattle.std.specs.Prelude.{ℕ, ◌≡◌, ◌≢◌, List, Option, Some, Result, Ok, Err}
+use Rattle.std.specs.Prelude.{ℕ, ◌≡◌, ◌≢◌, ◌⊎◌, List, Option, Some, Result, Ok, Err}
 use Rattle.saved_files.specs.declared.put_fault.PutFault.{PutFault}
 use Rattle.saved_files.specs.declared.put_fault.PutFault.TheVariants.{Unmade, Unwritten, Unplaced}
 use Rattle.saved_files.specs.FileFault.{IsOfNoByte}
-use Rattle.saved_files.specs.Folder.{Entries, HasNewOrOld, KeepsOthers, RenamesOrKeeps, absent}
-use Rattle.saved_files.specs.Folder.{stored}
+use Rattle.saved_files.specs.Folder.{Entries, HasNewOrOld, IsWhole, KeepsOthers, LeavesOnly}
+use Rattle.saved_files.specs.Folder.{Remains, RenamesOrKeeps, absent, stored}
 
 -- every name but these two keeps what stood under it
 abbrev pub KeepsApart : List ℕ → List ℕ → Entries → Entries → Type 0
@@ -43,3 +43,15 @@ abbrev pub IsWhy : {E : Type 0} → Result (Unit {0}) E → PutFault E → Type 
 IsWhy done (Unmade why) = ⊥
 IsWhy done (Unwritten why) = done ≡ Err why
 IsWhy done (Unplaced why) = (done ≡ Ok tt) × IsOfNoByte why
+
+-- what a name may have while a file comes to its name: anything, if it is the one beside it; else
+-- what it had, or the file, whole, if it is its name
+abbrev pub MayTake : List ℕ → List ℕ → (List ℕ → Type 0) → Entries → Remains
+MayTake beside name fits old n e =
+    (n ≡ beside) ⊎ ((e ≡ old n) ⊎ ((n ≡ name) × IsWhole fits e))
+
+-- what a crash may leave then
+abbrev pub LeavesTaken : List ℕ → List ℕ → (List ℕ → Type 0) → Remains → Remains
+    → Entries → Entries → Type 0
+LeavesTaken beside name fits before after old new =
+    LeavesOnly (MayTake beside name fits old) before after

@@ -14,6 +14,13 @@ pub(crate) enum MemEntry {
     Stored(u64, Vec<u8>),
 }
 
+/// What a name had before it changed.
+#[derive(Drop)]
+pub(crate) struct Earlier {
+    pub name: String,
+    pub file: Option<MemEntry>,
+}
+
 impl MemEntry {
     /// The file's number.
     pub(crate) fn number(&self) -> u64 {

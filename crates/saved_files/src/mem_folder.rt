@@ -1,29 +1,33 @@
 //! A folder in memory.
 
-ghost use Rattle.std.specs.Prelude.{◌≡◌, OnErr, OnOk, None, Some};
-ghost use Rattle.saved_files.specs.Folder.{IsSame, IsRemoved};
-ghost use Rattle.saved_files.specs.MemFolder.{IsPut, entries_of, entry_at, entry_of};
+ghost use Rattle.std.specs.Prelude.{◌≡◌, ◌⊎◌, IfOk, OnErr, OnOk};
+ghost use Rattle.std.specs.String.{string_bytes};
+ghost use Rattle.saved_files.specs.Folder.{IsRemoved, IsRenamed, IsSame, LeavesEither, LeavesToo};
+ghost use Rattle.saved_files.specs.Folder.{MayLeave};
+ghost use Rattle.saved_files.specs.MemFolder.{HadBefore, IsPut, entries_of, entry_at, entry_of};
+ghost use Rattle.saved_files.specs.MemFolder.{remains_of};
 
 use crate::failing_calls::FailingCalls;
 use crate::folder::Folder;
-use crate::mem_entry::MemEntry;
+use crate::mem_entry::{Earlier, MemEntry};
 use crate::mem_file::{MemFile, WrittenMemFile};
 use std::alloc::{AllocError, Global};
 use std::collections::BTreeMap;
 use std::io;
 use std::io::ErrorKind;
 
-/// A folder in memory, of which is known what stands under each name. A call fails where its
-/// `FailingCalls` say so, and where memory is refused.
+/// A folder in memory, of which is known what stands under each name, and what a crash leaves. A
+/// call fails where its `FailingCalls` say so, and where memory is refused.
 #[derive(Drop)]
 pub struct MemFolder<'a> {
     alloc: Global,
     calls: &'a FailingCalls,
     files: BTreeMap<String, MemEntry>,
+    /// What names had since they were stored, which a crash may bring back: the oldest one first.
+    past: Vec<Earlier>,
     /// How many files were made.
     made: u64,
     is_taken: bool,
-    is_lasting: bool,
     given_up: Vec<u8>,
 }
 
@@ -34,9 +38,9 @@ impl<'a> MemFolder<'a> {
             alloc,
             calls,
             files: BTreeMap::new(alloc),
+            past: Vec::new(alloc),
             made: 0,
             is_taken: false,
-            is_lasting: false,
             given_up: Vec::new(alloc),
         }
     }
@@ -54,9 +58,44 @@ impl<'a> MemFolder<'a> {
         self.files.len()
     }
 
-    /// Whether the names are stored as they stand.
-    pub fn is_lasting(&self) -> bool {
-        self.is_lasting
+    /// What a crash leaves. The changes since the names were stored are looked at from the last one
+    /// back, and each one whose bit is set in the mask, the lowest one first, is undone: its name
+    /// has again what it had before.
+    pub fn crash(self, undone: u64) -> Result<MemFolder<'a>, AllocError>
+        ensures { IfOk result (λ left. MayLeave
+            (remains_of self.entry.files self.entry.past.items) (entries_of left.files)) }
+    {
+        let mut left = MemFolder::new(self.alloc, self.calls);
+        left.files = brought_back(self.files, self.past, undone)?;
+        left.made = self.made;
+        Ok(left)
+    }
+
+    /// Keeps what a name has, before it changes.
+    fn remember(&mut self, name: &str) -> Result<(), AllocError>
+        ensures had { OnOk result (HadBefore self.new.past.items name.now
+            (entries_of self.old.files name.now)) }
+        ensures past { LeavesToo (HadBefore self.old.past.items) (HadBefore self.new.past.items) }
+        ensures only { (n : _) (e : _) → HadBefore self.new.past.items n e
+            → HadBefore self.old.past.items n e ⊎ (e ≡ entries_of self.old.files n) }
+        ensures files { self.new.files ≡ self.old.files }
+        ensures taken { self.new.is_taken ≡ self.old.is_taken }
+        ensures given_up { self.new.given_up ≡ self.old.given_up }
+    {
+        let file = self.copy_of(name)?;
+        let name = String::from_str(self.alloc, name)?;
+        self.past.push(Earlier { name, file })?;
+        Ok(())
+    }
+
+    /// A copy of what a name has.
+    fn copy_of(&self, name: &str) -> Result<Option<MemEntry>, AllocError>
+        ensures { IfOk result (λ file. entry_at file ≡ entries_of self.now.files name.now) }
+    {
+        match self.files.get(name) {
+            Some(file) => Ok(Some(file.copied()?)),
+            None => Ok(None),
+        }
     }
 
     /// Has this stand under a name.
@@ -65,24 +104,66 @@ impl<'a> MemFolder<'a> {
             (entries_of self.old.files) (entries_of self.new.files)) }
         ensures same { OnErr result
             (IsSame (entries_of self.old.files) (entries_of self.new.files)) }
+        ensures crash { LeavesEither (remains_of self.old.files self.old.past.items)
+            (remains_of self.new.files self.new.past.items)
+            (entries_of self.old.files) (entries_of self.new.files) }
+        ensures past { LeavesToo (HadBefore self.old.past.items) (HadBefore self.new.past.items) }
+        ensures taken { self.new.is_taken ≡ self.old.is_taken }
+        ensures given_up { self.new.given_up ≡ self.old.given_up }
+    {
+        self.remember(name)?;
+        self.set(name, file)
+    }
+
+    /// Has this stand under a name. What it has is kept.
+    fn set(&mut self, name: &str, file: MemEntry) -> Result<(), AllocError>
+        ensures put { OnOk result (IsPut name.now (entry_of file)
+            (entries_of self.old.files) (entries_of self.new.files)) }
+        ensures same { OnErr result
+            (IsSame (entries_of self.old.files) (entries_of self.new.files)) }
+        ensures past { self.new.past ≡ self.old.past }
         ensures taken { self.new.is_taken ≡ self.old.is_taken }
         ensures given_up { self.new.given_up ≡ self.old.given_up }
     {
         let name = String::from_str(self.alloc, name)?;
         self.files.insert(name, file)?;
-        self.is_lasting = false;
         Ok(())
     }
 
-    /// Has nothing stand under a name.
+    /// Has nothing stand under a name. What it has is kept.
     fn remove(&mut self, name: &str)
+        requires { HadBefore self.old.past.items name.now (entries_of self.old.files name.now) }
         ensures removed { IsRemoved name.now
+            (entries_of self.old.files) (entries_of self.new.files) }
+        ensures crash { LeavesEither (remains_of self.old.files self.old.past.items)
+            (remains_of self.new.files self.new.past.items)
             (entries_of self.old.files) (entries_of self.new.files) }
         ensures taken { self.new.is_taken ≡ self.old.is_taken }
         ensures given_up { self.new.given_up ≡ self.old.given_up }
     {
         self.files.remove(name);
-        self.is_lasting = false;
+    }
+
+    /// Has what a name has stand under another one.
+    fn move_to(&mut self, from: &str, to: &str, file: MemEntry) -> Result<(), AllocError>
+        requires { entry_of file ≡ entries_of self.old.files from.now }
+        ensures renamed { OnOk result (IsRenamed from.now to.now
+            (entries_of self.old.files) (entries_of self.new.files)) }
+        ensures same { OnErr result
+            (IsSame (entries_of self.old.files) (entries_of self.new.files)) }
+        ensures crash { LeavesEither (remains_of self.old.files self.old.past.items)
+            (remains_of self.new.files self.new.past.items)
+            (entries_of self.old.files) (entries_of self.new.files) }
+        ensures taken { self.new.is_taken ≡ self.old.is_taken }
+        ensures given_up { self.new.given_up ≡ self.old.given_up }
+    {
+        if from == to {
+            return Ok(());
+        }
+        self.remember(from)?;
+        self.put(to, file)?;
+        self.remove(from);
+        Ok(())
     }
 
     /// The number of the file that has this name.
@@ -91,9 +172,60 @@ impl<'a> MemFolder<'a> {
     }
 }
 
+/// The files once some of the changes are undone.
+fn brought_back(
+    files: BTreeMap<String, MemEntry>,
+    past: Vec<Earlier>,
+    undone: u64,
+) -> Result<BTreeMap<String, MemEntry>, AllocError>
+    ensures { IfOk result (λ left. MayLeave (remains_of files past.items) (entries_of left)) }
+{
+    let (mut left, mut past, mut undone) = (files, past, undone);
+    while let Some(earlier) = past.pop() {
+        undo(&mut left, earlier, undone & 1 == 1)?;
+        undone >>= 1;
+    }
+    Ok(left)
+}
+
+/// Has a name what it had, if the change is undone.
+fn undo(
+    files: &mut BTreeMap<String, MemEntry>,
+    earlier: Earlier,
+    is_undone: bool,
+) -> Result<(), AllocError>
+    ensures { OnOk result ((files.new ≡ files.old)
+        ⊎ IsPut (string_bytes earlier.name) (entry_at earlier.file)
+        (entries_of files.old) (entries_of files.new)) }
+{
+    if !is_undone {
+        return Ok(());
+    }
+    bring_back(files, earlier)
+}
+
+/// Has a name what it had.
+fn bring_back(files: &mut BTreeMap<String, MemEntry>, earlier: Earlier) -> Result<(), AllocError>
+    ensures { OnOk result (IsPut (string_bytes earlier.name) (entry_at earlier.file)
+        (entries_of files.old) (entries_of files.new)) }
+{
+    let Earlier { name, file } = earlier;
+    match file {
+        Some(file) => {
+            files.insert(name, file)?;
+        }
+        None => {
+            files.remove(name.as_str());
+        }
+    }
+    Ok(())
+}
+
 impl<'a> Folder for MemFolder<'a> {
     ghost use Rattle.std.specs.Prelude.{◌≡◌, Some, true};
-    ghost use Rattle.saved_files.specs.MemFolder.{entries_of};
+    ghost use Rattle.std.proofs.Common.{inl, refl};
+    ghost use Rattle.saved_files.specs.Folder.{LeavesAsIs};
+    ghost use Rattle.saved_files.specs.MemFolder.{entries_of, remains_of};
 
     type File = MemFile<'a>;
 
@@ -103,7 +235,10 @@ impl<'a> Folder for MemFolder<'a> {
 
     ghost is_claimed = { λ folder. folder.is_taken ≡ true };
 
-    ghost is_stored = { λ folder. folder.is_lasting ≡ true };
+    ghost is_stored = { λ folder. LeavesAsIs (remains_of folder.files folder.past.items)
+        (entries_of folder.files) };
+
+    ghost may_leave = { λ folder. remains_of folder.files folder.past.items };
 
     ghost given_up = { λ folder. Some folder.given_up.items };
 
@@ -154,10 +289,7 @@ impl<'a> Folder for MemFolder<'a> {
             return Err(io::Error::from(ErrorKind::NotFound));
         };
         let file = file.copied()?;
-        if from != to {
-            self.put(to, file)?;
-            self.remove(from);
-        }
+        self.move_to(from, to, file)?;
         turn.end()
     }
 
@@ -167,13 +299,18 @@ impl<'a> Folder for MemFolder<'a> {
         if self.number_of(name) != Some(file.number) {
             return Err(io::Error::from(ErrorKind::NotFound));
         }
+        self.remember(name)?;
         self.remove(name);
         turn.end()
     }
 
     fn sync_names(&mut self) -> io::Result<()> {
-        let turn = self.calls.begin_any()?;
-        self.is_lasting = true;
-        turn.end()
+        self.calls.begin()?;
+        self.past = Vec::new(self.alloc);
+        Ok(())
     }
+
+    ghost stands = { λ folder n. inl refl };
+
+    ghost lasts = { λ folder stored. stored };
 }

@@ -1,10 +1,13 @@
 //! A file that takes the place of an older one.
 
-ghost use Rattle.std.specs.Prelude.{◌≡◌, ◌++◌, IfErr, IfOk, Ok, OnErr, OnOk, codes, decimal};
+ghost use Rattle.std.specs.Prelude.{◌≡◌, ◌++◌, IfErr, IfOk, Ok, OnErr, OnOk, Some, codes};
+ghost use Rattle.std.specs.Prelude.{decimal};
 ghost use Rattle.std.specs.String.{string_bytes};
 ghost use Rattle.saved_files.specs.FileFault.{IsOfNoByte};
-ghost use Rattle.saved_files.specs.Folder.{Changes, IsBeside, IsMade, IsSame, KeepsOthers, Puts};
-ghost use Rattle.saved_files.specs.Placed.{IsPlaced, IsUnplaced, IsWhy, LeavesWritten};
+ghost use Rattle.saved_files.specs.Folder.{Changes, IsBeside, IsMade, IsSame, KeepsOthers};
+ghost use Rattle.saved_files.specs.Folder.{LeavesEither, LeavesWhole, Puts};
+ghost use Rattle.saved_files.specs.Placed.{IsPlaced, IsUnplaced, IsWhy, LeavesTaken};
+ghost use Rattle.saved_files.specs.Placed.{LeavesWritten};
 ghost use Rattle.saved_files.specs.PutFault.{IsOfSource, LeavesPut, bytes_by};
 
 use crate::beside::Beside;
@@ -21,8 +24,8 @@ const MOST_UNFINISHED: u32 = 1_000;
 
 /// Puts a file in the place of an older one of this name, or where nothing stood. It is written
 /// beside the name, as `NAME.unfinished-1`, or with the next number where something has that name.
-/// It is then synced, and renamed: so at a fault the name has the old file or the new one, whole.
-/// The names of the folder are not synced.
+/// It is then synced, and renamed: so at a fault the name has the old file or the new one, whole,
+/// and so it has after a crash. The names of the folder are not synced.
 pub fn put_in_place<F: Folder, S: Source>(
     folder: &mut F,
     alloc: Global,
@@ -36,6 +39,9 @@ pub fn put_in_place<F: Folder, S: Source>(
         (LeavesPut name.now (S.gives source.old) (S.leaves source.old)
         (F.given_up folder.old) (F.given_up folder.new) fault)
         (F.entries folder.old) (F.entries folder.new)) }
+    ensures crash { Changes (LeavesWhole name.now (bytes_by (S.gives source.old))
+        (F.may_leave folder.old) (F.may_leave folder.new))
+        (F.entries folder.old) (F.entries folder.new) }
     ensures of_source { IfErr result (IsOfSource (S.leaves source.old)) }
     ensures claimed { F.is_claimed folder.new }
     ensures given_up { OnOk result (F.given_up folder.new ≡ F.given_up folder.old) }
@@ -67,6 +73,10 @@ pub(crate) fn put_written<F: Folder, E>(
     ensures left { IfErr result (λ fault. Changes
         (LeavesWritten (string_bytes it.name) name.now (F.holds it.file) fault)
         (F.entries folder.old) (F.entries folder.new)) }
+    ensures crash { Changes (LeavesTaken (string_bytes it.name) name.now
+        (λ bytes. (done ≡ Ok tt) × (F.holds it.file ≡ Some bytes))
+        (F.may_leave folder.old) (F.may_leave folder.new))
+        (F.entries folder.old) (F.entries folder.new) }
     ensures written { OnOk result (done ≡ Ok tt) }
     ensures why { IfErr result (IsWhy done) }
     ensures claimed { F.is_claimed folder.new }
@@ -92,6 +102,8 @@ pub(crate) fn give_up<F: Folder>(folder: &mut F, it: Beside<F::Written>)
     requires { F.is_claimed folder.old }
     ensures kept { Changes (KeepsOthers (string_bytes it.name))
         (F.entries folder.old) (F.entries folder.new) }
+    ensures crash { Changes (LeavesEither (F.may_leave folder.old) (F.may_leave folder.new))
+        (F.entries folder.old) (F.entries folder.new) }
     ensures given_up { F.given_up folder.new ≡ F.holds it.file }
     ensures claimed { F.is_claimed folder.new }
 {
@@ -113,6 +125,8 @@ pub fn make_beside<F: Folder>(
     ensures beside { IfOk result (λ it. IsBeside name.now (string_bytes it.0)) }
     ensures same { OnErr result
         (Changes IsSame (F.entries folder.old) (F.entries folder.new)) }
+    ensures crash { Changes (LeavesEither (F.may_leave folder.old) (F.may_leave folder.new))
+        (F.entries folder.old) (F.entries folder.new) }
     ensures no_byte { IfErr result IsOfNoByte }
     ensures claimed { F.is_claimed folder.new }
     ensures given_up { F.given_up folder.new ≡ F.given_up folder.old }
@@ -166,6 +180,9 @@ fn place<F: Folder>(
         (F.entries folder.old) (F.entries folder.new)) }
     ensures unplaced { OnErr result (Changes (IsUnplaced beside.now name.now (F.holds file.now))
         (F.entries folder.old) (F.entries folder.new)) }
+    ensures crash { Changes (LeavesTaken beside.now name.now
+        (λ bytes. F.holds file.now ≡ Some bytes) (F.may_leave folder.old) (F.may_leave folder.new))
+        (F.entries folder.old) (F.entries folder.new) }
     ensures no_byte { IfErr result IsOfNoByte }
     ensures claimed { F.is_claimed folder.new }
     ensures given_up { F.given_up folder.new ≡ F.given_up folder.old }

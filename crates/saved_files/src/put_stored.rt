@@ -1,7 +1,7 @@
 //! A file that takes the place of an older one, and whose name lasts.
 
-ghost use Rattle.std.specs.Prelude.{IfErr, OnOk};
-ghost use Rattle.saved_files.specs.Folder.{Changes, IsSame, Puts};
+ghost use Rattle.std.specs.Prelude.{IfErr, OnErr, OnOk};
+ghost use Rattle.saved_files.specs.Folder.{Changes, IsSame, LeavesEither, LeavesWhole, Puts};
 ghost use Rattle.saved_files.specs.PutFault.{bytes_by};
 ghost use Rattle.saved_files.specs.PutStored.{IsOfStored, IsUnstored, LeavesStored};
 
@@ -22,7 +22,7 @@ pub enum PutStoredFault<E> {
 }
 
 /// Puts a file in the place of an older one, as `put_in_place` does, and sees that its name is
-/// stored.
+/// stored: from then on a crash leaves the new file.
 pub fn put_and_store<F: Folder, S: Source>(
     folder: &mut F,
     alloc: Global,
@@ -33,6 +33,9 @@ pub fn put_and_store<F: Folder, S: Source>(
     ensures put { OnOk result (Changes (Puts name.now (bytes_by (S.gives source.old)))
         (F.entries folder.old) (F.entries folder.new)) }
     ensures stored { OnOk result (F.is_stored folder.new) }
+    ensures crash { OnErr result (Changes (LeavesWhole name.now (bytes_by (S.gives source.old))
+        (F.may_leave folder.old) (F.may_leave folder.new))
+        (F.entries folder.old) (F.entries folder.new)) }
     ensures left { IfErr result (λ fault. Changes
         (LeavesStored name.now (S.gives source.old) (S.leaves source.old)
         (F.given_up folder.old) (F.given_up folder.new) fault)
@@ -49,6 +52,9 @@ pub fn put_and_store<F: Folder, S: Source>(
 pub(crate) fn store_names<F: Folder, E>(folder: &mut F) -> Result<(), PutStoredFault<E>>
     requires { F.is_claimed folder.old }
     ensures stored { OnOk result (F.is_stored folder.new) }
+    ensures crash { OnErr result (Changes
+        (LeavesEither (F.may_leave folder.old) (F.may_leave folder.new))
+        (F.entries folder.old) (F.entries folder.new)) }
     ensures same { Changes IsSame (F.entries folder.old) (F.entries folder.new) }
     ensures unstored { IfErr result IsUnstored }
 {

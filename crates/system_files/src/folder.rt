@@ -217,6 +217,8 @@ impl<'a> Folder for SystemFolder<'a> {
 
     ghost is_stored = { λ _. Unit {0} };
 
+    ghost may_leave = { λ _ _ _. Unit {0} };
+
     ghost given_up = { λ _. None };
 
     ghost holds = { λ _. None };
@@ -266,6 +268,10 @@ impl<'a> Folder for SystemFolder<'a> {
         self.notes.note(&synced);
         synced
     }
+
+    ghost stands = { λ _. tt };
+
+    ghost lasts = { λ _ _. tt };
 }
 
 /// Whether another one has the file at this place locked. What is no regular file is not opened.

@@ -112,6 +112,44 @@ fn each_call_of_a_file_fails(rt: HostRuntime) {
     }
 }
 
+// What a crash leaves
+
+/// A folder in which a file was put in the place of an older one whose name lasts, after a crash.
+fn crashed<'a>(
+    rt: &(impl Abort + AllocGlobal),
+    calls: &'a FailingCalls,
+    undone: u64,
+) -> MemFolder<'a> {
+    let mut folder = MemFolder::new(rt.alloc(), calls);
+    fill(rt, &mut folder, &["v"]);
+    folder.sync_names().expect(rt, "names that last");
+    let put = put_in_place(&mut folder, rt.alloc(), "v", &mut Bytes(b"new"));
+    same(rt, &put, &Ok(()));
+    folder.crash(undone).expect(rt, "a folder")
+}
+
+#[test]
+fn a_crash_leaves_the_older_file_or_the_new_one(rt: HostRuntime) {
+    let calls = FailingCalls::new();
+    for undone in 0..16 {
+        let left = crashed(&rt, &calls, undone);
+        let wanted = if undone & 1 == 1 { OLD } else { NEW.0 };
+        same_at(&rt, &left.stored("v"), &Some(wanted), &undone);
+    }
+}
+
+#[test]
+fn a_crash_leaves_a_name_that_is_stored(rt: HostRuntime) {
+    let calls = FailingCalls::new();
+    let mut folder = MemFolder::new(rt.alloc(), &calls);
+    fill(&rt, &mut folder, &["v"]);
+    let put = put_and_store(&mut folder, rt.alloc(), "v", &mut Bytes(b"new"));
+    same(&rt, &put, &Ok(()));
+    let left = folder.crash(u64::MAX).expect(&rt, "a folder");
+    same(&rt, &left.stored("v"), &Some(NEW.0));
+    same(&rt, &left.len(), &1);
+}
+
 // The folder in memory
 
 #[test]

@@ -127,6 +127,8 @@ impl<'a> Folder for SimulatedFolder<'a> {
 
     ghost is_stored = { λ _. Unit {0} };
 
+    ghost may_leave = { λ _ _ _. Unit {0} };
+
     ghost given_up = { λ _. None };
 
     ghost holds = { λ _. None };
@@ -178,6 +180,10 @@ impl<'a> Folder for SimulatedFolder<'a> {
             Err(_) => Err(busy()),
         }
     }
+
+    ghost stands = { λ _. tt };
+
+    ghost lasts = { λ _ _. tt };
 }
 
 impl<'a> DatabaseFolder for SimulatedFolder<'a> {
