@@ -1,6 +1,7 @@
 mod CopyCalls
 mod CutLives
 mod Forgotten
+mod LogThere
 mod PowerCuts
 mod Puts
 mod Reopened

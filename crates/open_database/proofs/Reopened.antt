@@ -1,17 +1,25 @@
 -- A database that is opened again.
 use Rattle.std.proofs.Common.{◌≡◌, ℕ, List, [], ap, length, subst, sym, ◌∙◌}
+use Rattle.std.proofs.lemmas.List.{length-map}
 use Rattle.page_core.specs.declared.page.Page.{Page}
 use Rattle.page_core.specs.Volume.{AreNumbered}
 use Rattle.log_front.specs.Front.{end_of}
 use Rattle.log_records.specs.Log.{IsLog, IsPageCount, Log, page_count}
 use Rattle.log_records.proofs.Public.{length-redo_all, numbered-redo_all}
 use Rattle.log_records.proofs.Public.{page_count-is_count}
+use Rattle.log_rules.specs.Table.{Table, entry_of}
+use Rattle.log_rules.specs.Transactions.{open_in}
+use Rattle.log_store.specs.Analysis.{IsAnalysisOf}
+use Rattle.log_store.specs.declared.analysis.Analysis.{Analysis}
 use Rattle.loser_undo.proofs.Public.{undone_count}
 use Rattle.engine_restart.specs.Lives.{GoesOnFrom}
 use Rattle.engine_restart.specs.Restart.{IsRestarted, RestartedView, undone_log}
 use Rattle.engine_rules.specs.EngineState.{EngineState}
 use Rattle.open_database.specs.Copies.{TakesUp}
+use Rattle.open_database.specs.FirstLine.{told_of}
 use Rattle.open_database.specs.Opened.{GoesOnWith}
+use Rattle.open_database.specs.declared.first_line.FirstLine.{FirstLine}
+use Rattle.open_database.specs.declared.first_line.FirstLine.TheVariants.{Restarted}
 use Rattle.open_database.specs.declared.found_copies.CopyFile.{CopyFile}
 
 -- a log counts as many pages once what was open is taken back
@@ -42,3 +50,16 @@ goes_on_with log at files begun last engine at_end log_is no_copy same taken goe
   taken = subst (λ (e : ℕ). TakesUp e begun files last) at_end taken;
   copies = copies;
 }
+
+-- what reading a log answered counts its open transactions
+pub open_count : (log : Log) (it : Analysis) (count : ℕ) → IsAnalysisOf log it → count ≡ length it.txns.table.entries
+    → count ≡ length (open_in log.records)
+open_count log it count is counted =
+    counted ∙ ap (λ (t : Table). length t.entries) is.txns ∙ length-map (open_in log.records) (entry_of log.records)
+
+pub told_is : (log : Log) (end open_there count : ℕ) (engine : EngineState) (first : FirstLine)
+    → first ≡ Restarted end open_there count → end ≡ end_of log → open_there ≡ length (open_in log.records)
+    → count ≡ length engine.log → first ≡ told_of log engine
+told_is log end open_there count engine first is ends are counted =
+    is ∙ ap (λ (n : ℕ). Restarted n open_there count) ends ∙ ap (λ (n : ℕ). Restarted (end_of log) n count) are
+    ∙ ap (λ (n : ℕ). Restarted (end_of log) (length (open_in log.records)) n) counted

@@ -1,7 +1,7 @@
 -- Lines that were taken, one after another.
 use Rattle.std.proofs.Common.{ℕ, ◌≡◌, ◌++◌, List, [], ◌∷◌, refl, subst, sym}
 use Rattle.std.specs.Prelude.{Option, Some, None, Result, Ok, Err, IfErr, IfOk, IsErrAnd, OnOk}
-use Rattle.std.specs.Io.KnownBytes.{Appends}
+use Rattle.std.specs.Io.KnownBytes.{Appends, Keeps}
 use Rattle.std.specs.List.{All}
 use Rattle.std.proofs.lemmas.List.Elements.{All-append, All-cons, All-nil}
 use Rattle.engine_calls.specs.EventFits.{EventFits}
@@ -17,9 +17,9 @@ use Rattle.open_database.proofs.Runs.{closing_lives, run_append, runs_none, runs
 use Rattle.open_database.specs.Calls.{IsAnyReply, IsOfClosing, IsPlain, Lives, Makes, RunsBy, SaysOf, ended, plain, sealed}
 use Rattle.open_database.specs.MadeFiles.{StepsAndSays}
 use Rattle.open_database.specs.Said.{said_line}
-use Rattle.open_database.specs.Session.{LeavesLast, LeavesServed, LeavesTaken, LivesByLines}
+use Rattle.open_database.specs.Session.{LeavesLast, LeavesLine, LeavesServed, LeavesTaken, LivesByLines}
 use Rattle.open_database.specs.Session.{Says, SaysCall, Serves, ServesLines, Takes, all_served, bad_not_told, bad_told}
-use Rattle.open_database.specs.Session.{WritesBad, call_told, not_taken, not_told, nothing_told, one_left}
+use Rattle.open_database.specs.Session.{WritesBad, call_told, not_begun, not_taken, not_told, nothing_told, one_left}
 use Rattle.open_database.specs.Session.{word_not_told, word_told}
 use Rattle.open_database.specs.Words.{MakesWord, Spells, Told, text_of}
 use Rattle.open_database.specs.declared.bad_call.LineTrouble.{LineTrouble}
@@ -28,6 +28,7 @@ use Rattle.open_database.specs.declared.order.Order.TheVariants as order
 use Rattle.open_database.specs.declared.said.Said.{Said}
 use Rattle.open_database.specs.declared.said.Said.TheVariants.{Reply}
 use Rattle.open_database.specs.declared.session.ServeFault.{ServeFault}
+use Rattle.open_database.specs.declared.session.ServeFault.TheVariants.{OutOfMemory}
 use Rattle.open_database.specs.declared.word.Word.{Word}
 
 -- any replies will do
@@ -209,27 +210,43 @@ left_lives old new before after fault left =
 
 -- ---- a session
 
-pub no_lines : (s : EngineState) → ServesLines s s
-no_lines s = all_served None None (served_none s None)
+kept_bytes : (known : Option (List ℕ)) → Keeps known known
+kept_bytes None = tt
+kept_bytes (Some bytes) = refl
 
-pub some_lines : (old new : EngineState) (before after : Option (List ℕ)) (r : Result Unit ServeFault)
-    → OnOk r (Serves old new before after) → IfErr r (LeavesServed old new before after) → ServesLines old new
-some_lines old new before after (Ok x) served left = all_served before after served
-some_lines old new before after (Err fault) served left = one_left before after fault left
+-- there was no memory for the lines, and nothing was done
+pub no_lines : (first : List ℕ) (s : EngineState) (known : Option (List ℕ)) → ServesLines first s s known known
+no_lines first s known = not_begun OutOfMemory refl (kept_bytes known)
 
-lines_live : (old new : EngineState) → ServesLines old new → Lives old new
-lines_live old new (all_served before after served) = served_lives old new before after served
-lines_live old new (one_left before after fault left) = left_lives old new before after fault left
+-- the first line was not written, or not all of it
+pub no_first : (first : List ℕ) (s : EngineState) (before after : Option (List ℕ)) (fault : ServeFault)
+    → LeavesLine before after first fault → ServesLines first s s before after
+no_first first s before after fault left = not_begun fault refl left
 
-pub by_lines : (old end new : EngineState) → ServesLines old end → RunsBy IsOfClosing IsAnyReply end new
-    → LivesByLines old new
-by_lines old end new served closed = record {
+pub some_lines : (first : List ℕ) (old new : EngineState) (before told after : Option (List ℕ))
+    (r : Result Unit ServeFault) → Appends before told first → OnOk r (Serves old new told after)
+    → IfErr r (LeavesServed old new told after) → ServesLines first old new before after
+some_lines first old new before told after (Ok x) tells served left = all_served told tells served
+some_lines first old new before told after (Err fault) tells served left = one_left told fault tells left
+
+lines_live : (first : List ℕ) (old new : EngineState) (before after : Option (List ℕ))
+    → ServesLines first old new before after → Lives old new
+lines_live first old new before after (all_served told tells served) = served_lives old new told after served
+lines_live first old new before after (one_left told fault tells left) = left_lives old new told after fault left
+lines_live first old new before after (not_begun fault is left) =
+    subst (λ (s : EngineState). Lives old s) (sym is) (runs_none EventFits IsAnyReply old)
+
+pub by_lines : (first : List ℕ) (old end new : EngineState) (before after : Option (List ℕ))
+    → ServesLines first old end before after → RunsBy IsOfClosing IsAnyReply end new
+    → LivesByLines first old new before after
+by_lines first old end new before after served closed = record {
   end = end;
   served = served;
   closed = closed;
 }
 
-pub by_lines_lives : (old end new : EngineState) → ServesLines old end → RunsBy IsOfClosing IsAnyReply end new
-    → Lives old new
-by_lines_lives old end new served closed =
-    runs_then EventFits IsAnyReply old end new (lines_live old end served) (closing_lives end new closed)
+pub by_lines_lives : (first : List ℕ) (old end new : EngineState) (before after : Option (List ℕ))
+    → ServesLines first old end before after → RunsBy IsOfClosing IsAnyReply end new → Lives old new
+by_lines_lives first old end new before after served closed =
+    runs_then EventFits IsAnyReply old end new (lines_live first old end before after served)
+    (closing_lives end new closed)

@@ -13,6 +13,7 @@ use Rattle.open_database.specs.MadeFiles.{HasFile}
 use Rattle.open_database.specs.Opened.{Begins}
 use Rattle.open_database.specs.Said.{IsAnswer}
 use Rattle.open_database.specs.Words.{MakesWord, one_line}
+use Rattle.open_database.specs.declared.first_line.FirstLine.{FirstLine}
 use Rattle.open_database.specs.declared.said.Said.TheVariants.{Reply}
 use Rattle.open_database.specs.declared.word.Word.TheVariants.{Checkpoint, Copy}
 use Rattle.open_database.specs.declared.word_said.WordSaid.{WordSaid}
@@ -61,7 +62,8 @@ pub record BacksUp (full : Bool) (told : Option ℕ) (old new : EngineState) : T
 pub record WasBackedUp (full : Bool) (told : Option ℕ) : Type 0 where
   pub log : Option ℕ
   pub ids : List ℕ
+  pub first : FirstLine
   pub begun : EngineState
-  pub begins : Begins log ids None MAX_PAGES begun
+  pub begins : Begins None log ids None MAX_PAGES first begun
   pub ended : EngineState
   pub backs_up : BacksUp full told begun ended

@@ -1,8 +1,10 @@
 -- What the folder of a database tells of a name.
-use Rattle.std.specs.Prelude.{ℕ, ◌≡◌, ◌≢◌, Bool, true, false, List, None, Option, Some}
+use Rattle.std.specs.Prelude.{ℕ, ◌≡◌, ◌≢◌, Bool, true, false, codes, IfSome, length, List, None, Option, Some}
+use Rattle.std.specs.Prelude.{take}
 use Rattle.saved_files.specs.Folder.{Entries, FolderEntry, absent, stored, unsynced}
 use Rattle.open_database.specs.declared.database_folder.Standing.{Standing}
 use Rattle.open_database.specs.declared.database_folder.Standing.TheVariants.{File, NoFile, Nothing}
+use Rattle.open_database.specs.declared.log_file.LogFile.{LogFile}
 
 -- it is told whether something has the name, as far as that is known
 abbrev pub Tells : Option Entries → List ℕ → Bool → Type 0
@@ -27,3 +29,38 @@ OpensIn (File it) bytes there = AreOf there (bytes it)
 abbrev pub Opens : {T : Type 0} → Standing T → (T → Option (List ℕ)) → Option Entries → List ℕ → Type 0
 Opens given bytes None name = Unit {0}
 Opens given bytes (Some entries) name = OpensIn given bytes (entries name)
+
+-- ---- the file of the log
+
+-- it has so many bytes, where it is known which are stored
+abbrev pub HasLength : FolderEntry → ℕ → Type 0
+HasLength absent len = ⊥
+HasLength unsynced len = Unit {0}
+HasLength (stored all) len = len ≡ length all
+
+-- no log stands in a folder, as far as that is known
+abbrev pub IsWithoutLog : Option Entries → Type 0
+IsWithoutLog entries = IfSome entries (λ it. it (codes "log") ≡ absent)
+
+-- these are the bytes of the log that stands there
+abbrev pub HasLogBytes : Option Entries → List ℕ → Type 0
+HasLogBytes entries bytes = IfSome entries (λ it. AreOf (it (codes "log")) (Some bytes))
+
+-- a log of so many bytes stands there
+abbrev pub HasLogOf : Option Entries → ℕ → Type 0
+HasLogOf entries len = IfSome entries (λ it. HasLength (it (codes "log")) len)
+
+-- this file, of which its bytes are known so, is that of the log that stands there
+abbrev pub IsLogIn : {L : Type 0} → Option Entries → (L → Option (List ℕ)) → LogFile L → Type 0
+IsLogIn entries held log =
+    IfSome entries (λ it. AreOf (it (codes "log")) (held log.file)) × HasLogOf entries log.len
+
+-- that file is opened; or none is, and none stands there
+abbrev pub OpensLog : {L : Type 0} → Option Entries → (L → Option (List ℕ)) → Option (LogFile L)
+    → Type 0
+OpensLog entries held None = IsWithoutLog entries
+OpensLog entries held (Some log) = IsLogIn entries held log
+
+-- a file begins with these bytes, where it is known which it has
+abbrev pub AreFirstOf : Option (List ℕ) → List ℕ → Type 0
+AreFirstOf held bytes = IfSome held (λ all. bytes ≡ take (length bytes) all)

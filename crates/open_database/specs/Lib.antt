@@ -5,6 +5,7 @@ pub mod ClosedVolume
 pub mod Copies
 pub mod DatabaseFolder
 pub mod Evidence
+pub mod FirstLine
 pub mod Kept
 pub mod LeftOut
 pub mod MadeFiles

@@ -8,7 +8,12 @@ use Rattle.log_front.specs.Front.{IsFrontOf, end_of}
 use Rattle.log_front.specs.declared.cut.Cut.{Cut}
 use Rattle.log_records.specs.Log.{Log}
 use Rattle.log_records.specs.declared.limits.TheConstants.{HEADER_BYTES}
+use Rattle.saved_files.specs.Folder.{Entries}
 use Rattle.open_database.specs.Copies.{TakesUp}
+use Rattle.open_database.specs.DatabaseFolder.{HasLogBytes, HasLogOf, IsWithoutLog}
+use Rattle.open_database.specs.FirstLine.{told_of}
+use Rattle.open_database.specs.declared.first_line.FirstLine.{FirstLine}
+use Rattle.open_database.specs.declared.first_line.FirstLine.TheVariants.{New}
 use Rattle.open_database.specs.declared.found_copies.CopyFile.{CopyFile}
 use Rattle.open_database.specs.declared.log_file.LogFile.{LogFile}
 
@@ -23,10 +28,12 @@ pub record GoesOnWith (log : Log) (files : List CopyFile) (engine : EngineState)
   pub taken : TakesUp (end_of log) begun files last
   pub copies : engine.copies ≡ last.copies
 
--- an engine goes on from the longest front of so many bytes that is a log, and the file of each copy
--- of these ids was heard
-pub record GoesOnFromFile (count : ℕ) (ids : List ℕ) (engine : EngineState) : Type 0 where
+-- an engine goes on from the longest front that is a log of the bytes of the log's file, which are so
+-- many, and the file of each copy of these ids was heard; and this is told of it
+pub record GoesOnFromFile (entries : Option Entries) (count : ℕ) (ids : List ℕ)
+    (first : FirstLine) (engine : EngineState) : Type 0 where
   pub bytes : List ℕ
+  pub there : HasLogBytes entries bytes
   pub all : length bytes ≡ count
   pub log : Log
   pub cut : Option Cut
@@ -34,19 +41,25 @@ pub record GoesOnFromFile (count : ℕ) (ids : List ℕ) (engine : EngineState) 
   pub files : List CopyFile
   pub heard : map (λ file. file.id) files ≡ ids
   pub goes_on : GoesOnWith log files engine
+  pub told : first ≡ told_of log engine
 
--- it is a new one, of as many pages as were told
-abbrev pub IsNew : Option ℕ → ℕ → EngineState → Type 0
-IsNew told frames engine = IsSomeAnd told (λ pages. engine ≡ new_state pages frames)
+-- it is a new one, of as many pages as were told, and that is told
+abbrev pub IsNew : Option ℕ → ℕ → FirstLine → EngineState → Type 0
+IsNew told frames first engine =
+    IsSomeAnd told (λ pages. (engine ≡ new_state pages frames) × (first ≡ New pages))
 
 -- how many bytes the file of a log has, if there is one
 abbrev pub len_of : {L : Type 0} → Option (LogFile L) → Option ℕ
 len_of None = None
 len_of (Some log) = Some log.len
 
--- a database is new where there is no file of a log, or one that has no more bytes than a header;
--- else it goes on from that file, from all of its bytes, with the copies of these ids
-abbrev pub Begins : Option ℕ → List ℕ → Option ℕ → ℕ → EngineState → Type 0
-Begins None ids told frames engine = IsNew told frames engine
-Begins (Some len) ids told frames engine =
-    ((len ≤ HEADER_BYTES) × IsNew told frames engine) ⊎ GoesOnFromFile len ids engine
+-- a database is new where no log stands in its folder, or one that has no more bytes than a header;
+-- else it goes on from the log that stands there, from all of its bytes, with the copies of these
+-- ids; its first line tells which it is
+abbrev pub Begins : Option Entries → Option ℕ → List ℕ → Option ℕ → ℕ → FirstLine → EngineState
+    → Type 0
+Begins entries None ids told frames first engine =
+    IsWithoutLog entries × IsNew told frames first engine
+Begins entries (Some len) ids told frames first engine =
+    (HasLogOf entries len × (len ≤ HEADER_BYTES) × IsNew told frames first engine)
+    ⊎ GoesOnFromFile entries len ids first engine

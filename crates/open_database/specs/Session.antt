@@ -177,15 +177,21 @@ pub record LeavesServed (old new : EngineState) (before after : Option (List ℕ
   pub served : Serves old engine before written
   pub last : LeavesLast engine new written after fault
 
--- lines were taken to the end, or up to one that was left
-pub data ServesLines (old new : EngineState) : Type 0 where
-  all_served : (before after : Option (List ℕ)) → Serves old new before after → ServesLines old new
-  one_left : (before after : Option (List ℕ)) (fault : ServeFault)
-      → LeavesServed old new before after fault → ServesLines old new
+-- the first line was written, and then lines were taken to the end, or up to one that was left; or
+-- that line was not written, or not all of it, and no line was taken
+pub data ServesLines (first : List ℕ) (old new : EngineState) (before after : Option (List ℕ))
+    : Type 0 where
+  all_served : (told : Option (List ℕ)) → Appends before told first → Serves old new told after
+      → ServesLines first old new before after
+  one_left : (told : Option (List ℕ)) (fault : ServeFault) → Appends before told first
+      → LeavesServed old new told after fault → ServesLines first old new before after
+  not_begun : (fault : ServeFault) → new ≡ old → LeavesLine before after first fault
+      → ServesLines first old new before after
 
--- an engine ran by the calls of such lines, and then the log was forced and pages were written; no
--- other call was made
-pub record LivesByLines (old new : EngineState) : Type 0 where
+-- an engine ran by the calls of such lines, and that was written; and then the log was forced and
+-- pages were written, and no other call was made
+pub record LivesByLines (first : List ℕ) (old new : EngineState)
+    (before after : Option (List ℕ)) : Type 0 where
   pub end : EngineState
-  pub served : ServesLines old end
+  pub served : ServesLines first old end before after
   pub closed : RunsBy IsOfClosing IsAnyReply end new

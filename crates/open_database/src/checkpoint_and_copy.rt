@@ -11,8 +11,8 @@ use page_store::PageStore;
 use std::io::Write;
 use system_files::{Noted, Notes};
 
-/// Makes a checkpoint and then a copy, on this one or a full one, and writes what is said of each. Answers the id of the copy, if both were made and written; what went wrong was
-/// told.
+/// Makes a checkpoint and then a copy, on this one or a full one, and writes what is said of each.
+/// Answers the id of the copy, if both were made and written; what went wrong was told.
 pub(crate) fn checkpoint_and_copy<
     F: DatabaseFolder,
     S: PageStore,

@@ -1,8 +1,8 @@
 //! The folder of a database.
 
-ghost use Rattle.std.specs.Prelude.{◌≡◌, [], IfOk, OnErr, OnOk, Some, length};
+ghost use Rattle.std.specs.Prelude.{ℕ, ◌≡◌, [], IfOk, List, OnErr, OnOk, Option, Some, length};
 ghost use Rattle.file_devices.specs.FileLog.{bytes_of};
-ghost use Rattle.saved_files.specs.Folder.{Changes, IsRemoved, KeepsOthers};
+ghost use Rattle.saved_files.specs.Folder.{Changes, IsRemoved, IsSame, KeepsOthers};
 
 use crate::log_file::LogFile;
 use file_devices::FileLog;
@@ -57,7 +57,7 @@ impl From<io::Error> for VolumeFault {
 
 /// A folder in which the files of a database stand.
 pub trait DatabaseFolder: Folder {
-    ghost use Rattle.open_database.specs.DatabaseFolder.{Opens, Tells};
+    ghost use Rattle.open_database.specs.DatabaseFolder.{AreFirstOf, Opens, OpensLog, Tells};
 
     /// A file that is open to be read.
     type Reader: Read + Drop;
@@ -71,10 +71,14 @@ pub trait DatabaseFolder: Folder {
     /// A store of pages on the file of the volume.
     type Volume: PageStore + Drop;
 
+    /// All bytes of the file of a log, as far as they are known.
+    ghost held: { Self.Log → Option (List ℕ) };
+
     /// Claims the folder, until it is dropped. It is asked for again for a while where another one
     /// has it.
     fn claim_or_wait(&mut self) -> Result<(), ClaimFault>
-        ensures { OnOk result (Self.is_claimed self.new) };
+        ensures claimed { OnOk result (Self.is_claimed self.new) }
+        ensures same { Changes IsSame (Self.entries self.old) (Self.entries self.new) };
 
     /// The names of all that stands there, in no order.
     fn names(&self) -> io::Result<Vec<String>>;
@@ -105,7 +109,8 @@ pub trait DatabaseFolder: Folder {
 
     /// Opens the file of the log, if it is there, and locks it: a log that has two names, by a link,
     /// is open once. It is told whether the file is written.
-    fn open_log(&self, writes: bool) -> Result<Option<LogFile<Self::Log>>, LogFault>;
+    fn open_log(&self, writes: bool) -> Result<Option<LogFile<Self::Log>>, LogFault>
+        ensures { IfOk result (OpensLog (Self.entries self.now) held) };
 
     /// Makes the file of a new log, and locks it. Its name need not last yet.
     fn make_log(&mut self) -> Result<Self::Log, LogFault>
@@ -114,7 +119,8 @@ pub trait DatabaseFolder: Folder {
 
     /// Fills the buffer with the first bytes of the file of a log.
     fn log_begins(log: &Self::Log, bytes: &mut [u8]) -> io::Result<()>
-        ensures { length bytes.new ≡ length bytes.old };
+        ensures first { OnOk result (AreFirstOf (held log.now) bytes.new) }
+        ensures length { length bytes.new ≡ length bytes.old };
 
     /// A log's device on its file, which is emptied.
     fn emptied(alloc: Global, log: Self::Log) -> io::Result<FileLog<Self::LogDisk>>
@@ -127,6 +133,7 @@ pub trait DatabaseFolder: Folder {
         log: Self::Log,
         bytes: &mut [u8],
     ) -> io::Result<FileLog<Self::LogDisk>>
+        ensures first { OnOk result (AreFirstOf (held log) bytes.new) }
         ensures has { IfOk result (λ device. bytes_of device ≡ bytes.new) }
         ensures lasts { IfOk result (λ device. device.end ≡ length bytes.new) }
         ensures length { length bytes.new ≡ length bytes.old };

@@ -1,5 +1,8 @@
 //! The first line of an open database.
 
+ghost use Rattle.std.specs.Prelude.{◌≡◌};
+ghost use Rattle.open_database.specs.FirstLine.{plural_of};
+
 use page_core::Lsn;
 use std::fmt;
 
@@ -20,29 +23,34 @@ pub(crate) enum FirstLine {
 }
 
 impl fmt::Display for FirstLine {
+    ghost use Rattle.std.specs.Prelude.{Some};
+    ghost use Rattle.open_database.specs.FirstLine.{line_of_first};
+
+    ghost output = { λ line. Some (line_of_first line) };
+
     fn fmt<W: fmt::Write>(&self, f: &mut fmt::Formatter<W>) -> fmt::Result {
-        match self {
-            FirstLine::New(1) => f.write_str("new: 1 page"),
-            FirstLine::New(pages) => write!(f, "new: {pages} pages"),
+        let (at, back, count) = match self {
+            FirstLine::New(pages) => {
+                let some = plural(*pages as usize);
+                return write!(f, "new: {pages} page{some}");
+            }
             FirstLine::Restarted {
                 cut,
                 taken_back,
                 records,
-            } => {
-                let at = cut.0;
-                let some = plural(*taken_back);
-                let all = plural(*records);
-                write!(
-                    f,
-                    "restarted: log cut at {at}, {taken_back} transaction{some} taken back, "
-                )?;
-                write!(f, "{records} record{all}")
-            }
-        }
+            } => (cut.0, *taken_back, *records),
+        };
+        let (some, all) = (plural(back), plural(count));
+        write!(
+            f,
+            "restarted: log cut at {at}, {back} transaction{some} taken back, {count} record{all}"
+        )
     }
 }
 
 /// The end of a noun of which there are so many.
-fn plural(count: usize) -> &'static str {
+fn plural(count: usize) -> &'static str
+    ensures { result.now ≡ plural_of count }
+{
     if count == 1 { "" } else { "s" }
 }

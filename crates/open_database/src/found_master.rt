@@ -7,7 +7,7 @@ use crate::place::Place;
 use crate::whole_file::read_first;
 use fuzzy_ckpt::Point;
 use log_records::Record;
-use log_store::{LogImage, MASTER_BYTES, Master, decode_master};
+use log_store::{MASTER_BYTES, Master, decode_master};
 use page_core::LSN_STEP;
 
 /// What stands as the master record.
@@ -34,11 +34,12 @@ impl FoundMaster {
         }
     }
 
-    /// Whether nothing stands there, or the record of a complete checkpoint of this log.
-    pub fn is_of(&self, log: &LogImage) -> bool {
+    /// Whether nothing stands there, or the record of a complete checkpoint of the log that has these
+    /// records.
+    pub fn is_of(&self, records: &[Record]) -> bool {
         match self {
             FoundMaster::Absent => true,
-            FoundMaster::Spelled(master) => has_checkpoint(log, master),
+            FoundMaster::Spelled(master) => has_checkpoint(records, master),
             FoundMaster::Wrong => false,
         }
     }
@@ -53,10 +54,10 @@ impl FoundMaster {
     }
 }
 
-/// Whether the master record names a checkpoint that is complete in the log.
-fn has_checkpoint(log: &LogImage, master: &Master) -> bool {
+/// Whether the master record names a checkpoint that is complete in the log that has these records.
+fn has_checkpoint(records: &[Record], master: &Master) -> bool {
     let place = usize::try_from(master.end.0 / LSN_STEP).unwrap_or(0);
-    match log.records().get(place.wrapping_sub(1)) {
+    match records.get(place.wrapping_sub(1)) {
         Some(Record::EndChkpt { begin, .. }) => *begin == master.begin,
         _ => false,
     }

@@ -69,5 +69,7 @@ pub use backup::{BackupCall, backup_folder};
 pub use database_folder::{DatabaseFolder, LogFault, Standing, VolumeFault};
 pub use log_file::LogFile;
 pub use open::{OpenCall, OpenEnd, open_folder, open_in};
-pub use power_laws::{cut_lives_follow_one_another, power_cuts_lose_no_commit};
+pub use power_laws::{
+    cut_lives_follow_one_another, power_cuts_lose_no_commit, power_cuts_lose_no_told_file,
+};
 pub use renew::{RenewCall, renew_folder};

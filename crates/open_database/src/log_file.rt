@@ -4,6 +4,7 @@ ghost use Rattle.std.specs.Prelude.{◌≡◌, ◌≤◌, true, IfOk, length};
 ghost use Rattle.engine_restart.specs.LogFile.{LastsOnFile};
 ghost use Rattle.log_front.specs.Front.{IsFrontOf};
 ghost use Rattle.log_rules.specs.Linked.{IsLinked};
+ghost use Rattle.open_database.specs.DatabaseFolder.{AreFirstOf};
 
 use crate::database_folder::{DatabaseFolder, LogFault};
 use crate::fault::OpenFault;
@@ -57,6 +58,7 @@ pub(crate) fn found_in<F: DatabaseFolder>(
     log: LogFile<F::Log>,
 ) -> Result<FoundLog<FileLog<F::LogDisk>>, OpenFault>
     ensures whole { IfOk result (λ it. length it.bytes.items ≡ log.len) }
+    ensures first { IfOk result (λ it. AreFirstOf (F.held log.file) it.bytes.items) }
     ensures front { IfOk result (λ it. IsFrontOf it.bytes.items it.front) }
     ensures linked { IfOk result (λ it. IsLinked it.front.log.records) }
     ensures lasting { IfOk result (λ it. LastsOnFile it.front.log it.device) }
@@ -81,7 +83,8 @@ pub(crate) fn bytes_of<F: DatabaseFolder>(
     alloc: Global,
     log: &LogFile<F::Log>,
 ) -> Result<Vec<u8>, OpenFault>
-    ensures { IfOk result (λ bytes. length bytes.items ≡ log.now.len) }
+    ensures whole { IfOk result (λ bytes. length bytes.items ≡ log.now.len) }
+    ensures first { IfOk result (λ bytes. AreFirstOf (F.held log.now.file) bytes.items) }
 {
     if log.len > MAX_FILE_BYTES as u64 {
         return Err(OpenFault::TooLong(log.len));

@@ -1,11 +1,15 @@
 //! Opens a database in a folder, and answers the lines of standard input.
 
-ghost use Rattle.std.specs.Prelude.{ℕ, ◌≡◌, ◌≢◌, IfOk, IfSome, List, Option, Some};
+ghost use Rattle.std.specs.Prelude.{ℕ, ◌≡◌, ◌≢◌, ◌⊎◌, IfErr, IfOk, IfSome, List, None, OnOk, Option};
+ghost use Rattle.std.specs.Prelude.{Some};
 ghost use Rattle.buffer_pool.specs.Pool.{IsFrameCount};
 ghost use Rattle.log_records.specs.Log.{IsPageCount};
+ghost use Rattle.std.specs.Io.KnownBytes.{Appends};
 ghost use Rattle.open_database.specs.Calls.{Lives};
+ghost use Rattle.open_database.specs.DatabaseFolder.{OpensLog};
+ghost use Rattle.open_database.specs.FirstLine.{first_line};
 ghost use Rattle.open_database.specs.Opened.{Begins, IsNew, len_of};
-ghost use Rattle.open_database.specs.Session.{LivesByLines, ServesLines};
+ghost use Rattle.open_database.specs.Session.{LeavesLine, LivesByLines, ServesLines};
 ghost use Rattle.open_database.specs.WholeLives.{LivedByLines};
 ghost use Rattle.open_database.specs.declared.open.OpenEnd.TheVariants.{Failed};
 
@@ -23,7 +27,7 @@ use crate::place::Place;
 use crate::prompt::Prompted;
 use crate::restarted::{Reopened, reopen};
 use crate::session::{ServeFault, Session, TellsWhy};
-use crate::streams::Streams;
+use crate::streams::{StreamNotes, Streams};
 use crate::system_database::{SystemDatabase, output};
 use crate::told::Teller;
 use crate::unplaced_point::UnplacedPoint;
@@ -76,7 +80,9 @@ pub enum OpenEnd {
 pub fn open_folder(rt: &HostRuntime, call: &OpenCall<'_>) -> OpenEnd
     requires pages { IfSome call.now.pages IsPageCount }
     requires frames { IsFrameCount call.now.frames }
-    ensures { result ≢ Failed → LivedByLines call.now.pages call.now.frames }
+    // Of the system's folder and output nothing is known.
+    ensures { result ≢ Failed → (written : Option (List ℕ))
+        × LivedByLines None call.now.pages call.now.frames None written }
 {
     // Where a standard stream is closed, a file of the database must not get its number.
     let _held = held(rt);
@@ -98,51 +104,94 @@ pub fn open_folder(rt: &HostRuntime, call: &OpenCall<'_>) -> OpenEnd
     let streams = Streams {
         input,
         output: output(rt, &output_notes),
-        input_notes: &input_notes,
-        output_notes: &output_notes,
+        notes: StreamNotes {
+            input: &input_notes,
+            output: &output_notes,
+        },
     };
-    lived(&teller, folder, (&notes, &store_notes), streams, call)
+    lived_on(&teller, folder, (&notes, &store_notes), call, streams)
 }
 
 /// The same in any folder, with any input and output. Why it failed is not told.
-pub fn open_in<F: DatabaseFolder + Drop, R: Read + Drop, W: Write + Drop>(
+pub fn open_in<F: DatabaseFolder + Drop, R: Read, W: Write>(
     alloc: Global,
     folder: F,
     call: &OpenCall<'_>,
-    input: R,
-    output: W,
+    input: &mut R,
+    output: &mut W,
 ) -> OpenEnd
     requires pages { IfSome call.now.pages IsPageCount }
     requires frames { IsFrameCount call.now.frames }
-    ensures { result ≢ Failed → LivedByLines call.now.pages call.now.frames }
+    ensures lived { result ≢ Failed → LivedByLines (F.entries folder) call.now.pages call.now.frames
+        (W.contents output.old) (W.contents output.new) }
+    // Where it failed, too, nothing else was written.
+    ensures told { (W.contents output.new ≡ W.contents output.old)
+        ⊎ LivedByLines (F.entries folder) call.now.pages call.now.frames
+        (W.contents output.old) (W.contents output.new) }
 {
     let notes = Notes::new();
-    let streams = Streams {
-        input,
-        output,
-        input_notes: &notes,
-        output_notes: &notes,
+    let streams = StreamNotes {
+        input: &notes,
+        output: &notes,
     };
     lived(
         &Teller::silent(alloc),
         folder,
         (&notes, &notes),
-        streams,
         call,
+        input,
+        output,
+        streams,
     )
 }
 
-/// Opens the database in a folder, answers all lines, and closes it.
-fn lived<'a, F: DatabaseFolder + Drop, R: Read + Drop, W: Write + Drop>(
+/// Opens the database in a folder, answers all lines of these streams, and closes it.
+fn lived_on<'a, F: DatabaseFolder + Drop, R: Read + Drop, W: Write + Drop>(
     teller: &Teller<'a>,
     folder: F,
     notes: (&'a Notes, &'a Notes),
-    streams: Streams<'_, R, W>,
     call: &OpenCall<'_>,
+    streams: Streams<'_, R, W>,
 ) -> OpenEnd
     requires pages { IfSome call.now.pages IsPageCount }
     requires frames { IsFrameCount call.now.frames }
-    ensures { result ≢ Failed → LivedByLines call.now.pages call.now.frames }
+    ensures { result ≢ Failed → (written : Option (List ℕ))
+        × LivedByLines (F.entries folder) call.now.pages call.now.frames
+        (W.contents streams.entry.output) written }
+{
+    let Streams {
+        mut input,
+        mut output,
+        notes: stream_notes,
+    } = streams;
+    lived(
+        teller,
+        folder,
+        notes,
+        call,
+        &mut input,
+        &mut output,
+        stream_notes,
+    )
+}
+
+/// The same of streams that are lent.
+fn lived<'a, F: DatabaseFolder + Drop, R: Read, W: Write>(
+    teller: &Teller<'a>,
+    folder: F,
+    notes: (&'a Notes, &'a Notes),
+    call: &OpenCall<'_>,
+    input: &mut R,
+    output: &mut W,
+    streams: StreamNotes<'_>,
+) -> OpenEnd
+    requires pages { IfSome call.now.pages IsPageCount }
+    requires frames { IsFrameCount call.now.frames }
+    ensures lived { result ≢ Failed → LivedByLines (F.entries folder) call.now.pages call.now.frames
+        (W.contents output.old) (W.contents output.new) }
+    ensures told { (W.contents output.new ≡ W.contents output.old)
+        ⊎ LivedByLines (F.entries folder) call.now.pages call.now.frames
+        (W.contents output.old) (W.contents output.new) }
 {
     match session_in(teller, folder, notes, call) {
         Ok(
@@ -153,7 +202,14 @@ fn lived<'a, F: DatabaseFolder + Drop, R: Read + Drop, W: Write + Drop>(
                 point,
             },
         ) => {
-            live(&mut session, &mut kept, (first, point), streams);
+            live(
+                &mut session,
+                &mut kept,
+                (first, point),
+                input,
+                output,
+                streams,
+            );
             end_of(&session, call)
         }
         Err(fault) => {
@@ -181,7 +237,8 @@ pub(crate) fn opened<F: DatabaseFolder>(
     requires pages { IfSome call.now.pages IsPageCount }
     requires frames { IsFrameCount call.now.frames }
     ensures begins { IfOk result (λ it. (log : Option ℕ) × (ids : List ℕ)
-        × Begins log ids call.now.pages call.now.frames it.engine.state) }
+        × Begins (F.entries folder.old) log ids call.now.pages call.now.frames it.first
+        it.engine.state) }
     ensures claimed { IfOk result (λ _. F.is_claimed folder.new) }
 {
     if let Some(most) = folder.low_limit()? {
@@ -204,8 +261,9 @@ fn open_from<F: DatabaseFolder>(
     requires pages { IfSome call.now.pages IsPageCount }
     requires frames { IsFrameCount call.now.frames }
     requires claimed { F.is_claimed folder.old }
-    ensures begins { IfOk result (λ it. Begins (len_of log) there.now.copies.items call.now.pages
-        call.now.frames it.engine.state) }
+    requires there { OpensLog (F.entries folder.old) F.held log }
+    ensures begins { IfOk result (λ it. Begins (F.entries folder.old) (len_of log)
+        there.now.copies.items call.now.pages call.now.frames it.first it.engine.state) }
     ensures claimed { F.is_claimed folder.new }
 {
     let Some(log) = log else {
@@ -229,7 +287,8 @@ fn begun<F: DatabaseFolder>(
     requires pages { IfSome call.now.pages IsPageCount }
     requires frames { IsFrameCount call.now.frames }
     requires claimed { F.is_claimed folder.old }
-    ensures new { IfOk result (λ it. IsNew call.now.pages call.now.frames it.engine.state) }
+    ensures new { IfOk result (λ it. IsNew call.now.pages call.now.frames it.first
+        it.engine.state) }
     // The names of the log and of the volume last.
     ensures stored { IfOk result (λ _. F.is_stored folder.new) }
     ensures claimed { F.is_claimed folder.new }
@@ -238,6 +297,7 @@ fn begun<F: DatabaseFolder>(
     let manifest = manifest_of_new(alloc, folder, there)?;
     let pages = count_of_new(alloc, folder, call, there)?;
     let database = name_for(folder, &manifest)?;
+    there.clear(folder)?;
     let setup = Setup {
         pages,
         frames: call.frames,
@@ -268,17 +328,14 @@ fn manifest_of_new<F: DatabaseFolder>(
     }
 }
 
-/// How many pages a new database is to have, where one may be made in this folder. What an older
-/// life left unfinished there is removed.
+/// How many pages a new database is to have, where one may be made in this folder. It only looks.
 fn count_of_new<F: DatabaseFolder>(
     alloc: Global,
-    folder: &mut F,
+    folder: &F,
     call: &OpenCall<'_>,
     there: &Inventory,
 ) -> Result<u32, OpenFault>
-    requires { F.is_claimed folder.old }
-    ensures told { IfOk result (λ pages. call.now.pages ≡ Some pages) }
-    ensures claimed { F.is_claimed folder.new }
+    ensures { IfOk result (λ pages. call.now.pages ≡ Some pages) }
 {
     if let Some(place) = there.widow() {
         return Err(OpenFault::LogLost(place));
@@ -290,29 +347,31 @@ fn count_of_new<F: DatabaseFolder>(
         return Err(OpenFault::NoCount);
     };
     check_volume(folder)?;
-    there.clear(folder)?;
     Ok(pages)
 }
 
 /// Puts the master record in place, answers all lines, and closes the database.
-fn live<F: DatabaseFolder, S: PageStore, D: LogDevice + TellsWhy, R: Read + Drop, W: Write + Drop>(
+fn live<F: DatabaseFolder, S: PageStore, D: LogDevice + TellsWhy, R: Read, W: Write>(
     session: &mut Session<'_, F, S, D>,
     kept: &mut KeptManifest,
     begun: (FirstLine, Option<Point>),
-    streams: Streams<'_, R, W>,
+    input: &mut R,
+    output: &mut W,
+    streams: StreamNotes<'_>,
 )
     requires { F.is_claimed session.old.folder }
     ensures lives { Lives session.old.engine.state session.new.engine.state }
-    // The calls are those of the lines, and those of a closing.
-    ensures lines { LivesByLines session.old.engine.state session.new.engine.state }
+    // The calls are those of the lines, and those of a closing; what was written is the first line,
+    // and then what is said of the calls of the lines.
+    ensures lines { LivesByLines (first_line begun.0) session.old.engine.state
+        session.new.engine.state (W.contents output.old) (W.contents output.new) }
 {
     let (first, point) = begun;
-    let (input, output) = (streams.input_notes, streams.output_notes);
     warn_of_room(session);
     put_point(session, point);
     session.keep_placed(kept);
-    let served = serve_all(session, kept, first, streams);
-    note_served(session, served, input, output);
+    let served = serve_all(session, kept, first, input, output);
+    note_served(session, served, streams.input, streams.output);
     session.close(kept);
 }
 
@@ -352,30 +411,25 @@ pub(crate) fn put_point<F: DatabaseFolder, S: PageStore, D: LogDevice + TellsWhy
 }
 
 /// Writes the first line, and answers the lines of the input.
-fn serve_all<
-    F: DatabaseFolder,
-    S: PageStore,
-    D: LogDevice + TellsWhy,
-    R: Read + Drop,
-    W: Write + Drop,
->(
+fn serve_all<F: DatabaseFolder, S: PageStore, D: LogDevice + TellsWhy, R: Read, W: Write>(
     session: &mut Session<'_, F, S, D>,
     kept: &mut KeptManifest,
     first: FirstLine,
-    streams: Streams<'_, R, W>,
+    input: &mut R,
+    output: &mut W,
 ) -> Result<(), ServeFault>
     requires { F.is_claimed session.old.folder }
-    ensures served { ServesLines session.old.engine.state session.new.engine.state }
+    ensures served { ServesLines (first_line first) session.old.engine.state
+        session.new.engine.state (W.contents output.old) (W.contents output.new) }
     ensures claimed { F.is_claimed session.new.folder }
 {
-    let Streams {
-        input,
-        mut output,
-        ..
-    } = streams;
-    let mut lines = LineReader::new(session.alloc, input)?;
-    write_first(session, first, &mut output)?;
-    session.serve(&mut lines, &mut output, kept)
+    let Ok(mut lines) = LineReader::new(session.alloc, input) else {
+        return Err(ServeFault::OutOfMemory);
+    };
+    match write_first(session.alloc, first, output) {
+        Ok(()) => session.serve(&mut lines, output, kept),
+        Err(fault) => Err(fault),
+    }
 }
 
 /// Takes note of lines that came to an end before the input did, and tells why.
@@ -394,12 +448,16 @@ fn note_served<F: Folder, S: PageStore, D: LogDevice>(
     }
 }
 
-fn write_first<F: Folder, S: PageStore, D: LogDevice, W: Write>(
-    session: &Session<'_, F, S, D>,
-    first: FirstLine,
-    writer: &mut W,
-) -> Result<(), ServeFault> {
-    let text = format!(in session.alloc; "{first}\n")?;
+/// Writes what is told first, as a line.
+fn write_first<W: Write>(alloc: Global, first: FirstLine, writer: &mut W) -> Result<(), ServeFault>
+    ensures written { OnOk result
+        (Appends (W.contents writer.old) (W.contents writer.new) (first_line first)) }
+    ensures left { IfErr result
+        (LeavesLine (W.contents writer.old) (W.contents writer.new) (first_line first)) }
+{
+    let Ok(text) = format!(in alloc; "{first}\n") else {
+        return Err(ServeFault::OutOfMemory);
+    };
     match write_out(writer, text.as_bytes()) {
         Ok(()) => Ok(()),
         Err(done) => Err(ServeFault::WriteFault(done)),

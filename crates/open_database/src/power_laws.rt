@@ -1,6 +1,6 @@
 //! Laws of databases whose power is cut, for readers of the contracts.
 
-ghost use Rattle.std.specs.Prelude.{ℕ, ◌≡◌, ◌∷◌, List, Result};
+ghost use Rattle.std.specs.Prelude.{ℕ, ◌≡◌, ◌∷◌, List, Result, Some};
 ghost use Rattle.std.specs.List.{All};
 ghost use Rattle.copy_coverage.specs.Copied.{Restores};
 ghost use Rattle.copy_coverage.specs.Kept.{IsKeptOf};
@@ -16,12 +16,14 @@ ghost use Rattle.image_copies.specs.Copy.{CopyView};
 ghost use Rattle.log_records.specs.Log.{IsLog, Log};
 ghost use Rattle.open_database.specs.PowerCuts.{AreCutLives, BeginsWith, HasForced, IsCommittedIn};
 ghost use Rattle.open_database.specs.PowerCuts.{MayBeRead};
+ghost use Rattle.saved_files.specs.Folder.{Entries, MayLeave, stored};
 
 use aries_core::Engine;
 use copy_coverage::{a_complete_copy_restores, copies_may_be_restored};
 use file_devices::FileLog;
 use log_front::fronts_have_what_a_device_keeps;
 use page_store::PageStore;
+use saved_files::Folder;
 use sqlite_disk::Disk;
 
 /// A cut of the power loses no commit. Take an engine whose log is on a disk, at any moment between
@@ -72,3 +74,12 @@ pub fn cut_lives_follow_one_another()
     copies_may_be_restored();
     a_complete_copy_restores();
 }
+
+/// A cut of the power loses no file that was told of. Where the names of a folder are stored, as they
+/// are once a copy or a checkpoint is answered (`answered` of `Session::answer`), each file that is
+/// there is in all that a crash may leave, whole.
+pub fn power_cuts_lose_no_told_file<F: Folder>()
+    ensures { (folder : F) (entries left : Entries) (name bytes : List ℕ) → F.is_stored folder
+        → F.entries folder ≡ Some entries → MayLeave (F.may_leave folder) left
+        → entries name ≡ stored bytes → left name ≡ stored bytes }
+{}

@@ -8,14 +8,18 @@ ghost use Rattle.file_devices.specs.FileLog.{bytes_of};
 ghost use Rattle.log_front.specs.Front.{IsFrontOf, end_of};
 ghost use Rattle.log_records.specs.Log.{IsLog, IsPageCount, log_bytes, page_count};
 ghost use Rattle.log_rules.specs.Linked.{IsLinked};
+ghost use Rattle.log_rules.specs.Transactions.{open_in};
 ghost use Rattle.open_database.specs.Closed.{IsVouched};
 ghost use Rattle.open_database.specs.Copies.{TakesUp, ids_unread};
+ghost use Rattle.open_database.specs.DatabaseFolder.{HasLogBytes, IsLogIn};
 ghost use Rattle.saved_files.specs.Folder.{Changes, KeepsOthers};
 ghost use Rattle.open_database.specs.Evidence.{LacksNothing};
+ghost use Rattle.open_database.specs.FirstLine.{told_of};
 ghost use Rattle.open_database.specs.LeftOut.{IsKept, IsWorthKeeping, WasKept};
 ghost use Rattle.open_database.specs.LeftOut.{behind};
 ghost use Rattle.open_database.specs.Master.{spelled};
 ghost use Rattle.open_database.specs.Opened.{GoesOnFromFile, GoesOnWith};
+ghost use Rattle.open_database.specs.declared.first_line.FirstLine.TheVariants as line;
 
 use crate::begin::code_of;
 use crate::closed_note::{ClosedNote, read_note, remove_note};
@@ -41,7 +45,6 @@ use engine_restart::{FoundLog, Restarted, restart, store_of};
 use file_devices::FileLog;
 use fuzzy_ckpt::{LogCheckpoints, Point};
 use log_front::Front;
-use log_records::Record;
 use manifest::{DatabaseName, Manifest, Sums};
 use page_core::Lsn;
 use page_store::PageStore;
@@ -94,8 +97,9 @@ pub(crate) fn reopen<F: DatabaseFolder>(
 ) -> Result<Reopened<F::Volume, F::LogDisk>, OpenFault>
     requires frames { IsFrameCount call.now.frames }
     requires claimed { F.is_claimed folder.old }
-    ensures goes_on { IfOk result (λ it.
-        GoesOnFromFile log.len there.now.copies.items it.engine.state) }
+    requires there { IsLogIn (F.entries folder.old) F.held log }
+    ensures goes_on { IfOk result (λ it. GoesOnFromFile (F.entries folder.old) log.len
+        there.now.copies.items it.first it.engine.state) }
     ensures claimed { F.is_claimed folder.new }
 {
     let mut remains = find(teller, folder, log, there)?;
@@ -114,6 +118,8 @@ fn find<F: DatabaseFolder>(
     log: LogFile<F::Log>,
     there: &Inventory,
 ) -> Result<Remains<F::LogDisk>, OpenFault>
+    requires { IsLogIn (F.entries folder.now) F.held log }
+    ensures there { IfOk result (λ it. HasLogBytes (F.entries folder.now) it.log.bytes.items) }
     ensures whole { IfOk result (λ it. length it.log.bytes.items ≡ log.len) }
     ensures front { IfOk result (λ it. IsFrontOf it.log.bytes.items it.log.front) }
     ensures linked { IfOk result (λ it. IsLinked it.log.front.log.records) }
@@ -197,13 +203,29 @@ fn prepare<F: DatabaseFolder>(
         ⊎ IsVouched remains.old.others.note (end_of remains.old.log.front.log)) }
     ensures claimed { F.is_claimed folder.new }
 {
-    check_count(call, remains.log.front.log().page_count())?;
-    check_volume(folder)?;
-    let (loss, sums) = check_loss(teller, call, remains)?;
+    let (loss, sums) = checked(teller, folder, call, remains)?;
     there.clear(folder)?;
     silence(teller, folder, &loss)?;
     settle(teller, folder, there, remains)?;
     Ok(sums)
+}
+
+/// Sees that what was found may be opened: the volume has as many pages as were told, nothing else
+/// has its name, and the log lacks nothing. It only looks.
+fn checked<F: DatabaseFolder>(
+    teller: &Teller<'_>,
+    folder: &F,
+    call: &OpenCall<'_>,
+    remains: &Remains<F::LogDisk>,
+) -> Result<(Loss, Option<Sums>), OpenFault>
+    ensures { OnOk result (call.now.salvage ≡ false
+        → LacksNothing (end_of remains.now.log.front.log)
+        remains.now.others.note remains.now.others.manifest (spelled remains.now.others.master)
+        remains.now.others.copies.items remains.now.log.bytes.items) }
+{
+    check_count(call, remains.log.front.log().page_count())?;
+    check_volume(folder)?;
+    check_loss(teller, call, remains)
 }
 
 /// Whether the volume has as many pages as were told, if a count was told.
@@ -389,6 +411,7 @@ fn go_on<F: DatabaseFolder>(
     requires claimed { F.is_claimed folder.old }
     ensures goes_on { IfOk result (λ it.
         GoesOnWith found.front.log beside.0.copies.items it.engine.state) }
+    ensures told { IfOk result (λ it. it.first ≡ told_of found.front.log it.engine.state) }
     ensures unread { IfOk result (λ it. it.unread.items ≡ ids_unread beside.0.copies.items) }
     ensures claimed { F.is_claimed folder.new }
 {
@@ -415,8 +438,9 @@ fn go_on<F: DatabaseFolder>(
 /// What is told of a log that was found.
 #[derive(Clone, Copy)]
 struct Facts {
-    records: usize,
     end: Lsn,
+    /// How many transactions are open there.
+    taken_back: usize,
     /// Its last complete checkpoint, where the master record does not name it.
     unnamed: Option<Point>,
     /// What stands as the master record names no checkpoint of it.
@@ -425,23 +449,28 @@ struct Facts {
 
 impl Facts {
     fn of(front: &Front, master: &FoundMaster) -> Facts
-        ensures { IsLog front.now.log }
+        ensures log { IsLog front.now.log }
+        ensures cut { result.end ≡ end_of front.now.log }
+        ensures open { result.taken_back ≡ length (open_in front.now.log.records) }
     {
         let log = front.log();
         let last = LogCheckpoints::of(front.analysis()).last;
         Facts {
-            records: log.records().len(),
             end: log.end(),
+            taken_back: front.analysis().txns.open_count(),
             unnamed: if master.names(last) { None } else { last },
-            is_master_wrong: !master.is_of(log),
+            is_master_wrong: !master.is_of(log.records()),
         }
     }
 
     /// The first line, once what was open in the log is taken back.
-    fn first_line(&self, restarted: &Restarted) -> FirstLine {
+    fn first_line(&self, restarted: &Restarted) -> FirstLine
+        ensures { result ≡ line.Restarted self.now.end self.now.taken_back
+            (length restarted.now.log.records) }
+    {
         FirstLine::Restarted {
             cut: self.end,
-            taken_back: ended_behind(restarted.records(), self.records),
+            taken_back: self.taken_back,
             records: restarted.records().len(),
         }
     }
@@ -493,15 +522,4 @@ fn equip<F: DatabaseFolder>(
         Ok(store) => Ok((store, unread)),
         Err(fault) => Err(fault),
     }
-}
-
-/// How many transactions end behind so many records. Undo ends each that was open there.
-fn ended_behind(records: &[Record], front: usize) -> usize {
-    let mut count = 0usize;
-    for it in records.iter().skip(front) {
-        if matches!(it, Record::End { .. }) {
-            count = count.saturating_add(1);
-        }
-    }
-    count
 }

@@ -2,11 +2,17 @@
 
 use system_files::Notes;
 
-/// An input and an output, and the notes of why their calls failed.
+/// Why calls of the input and of the output failed.
+#[derive(Clone, Copy)]
+pub(crate) struct StreamNotes<'a> {
+    pub input: &'a Notes,
+    pub output: &'a Notes,
+}
+
+/// An input and an output, and the notes of both.
 #[derive(Drop)]
 pub(crate) struct Streams<'a, R, W> {
     pub input: R,
     pub output: W,
-    pub input_notes: &'a Notes,
-    pub output_notes: &'a Notes,
+    pub notes: StreamNotes<'a>,
 }

@@ -1,7 +1,8 @@
 //! The folder of a database that is one of the system.
 
-ghost use Rattle.std.specs.Prelude.{◌≡◌, [], IfOk, None, length};
+ghost use Rattle.std.specs.Prelude.{◌≡◌, [], IfOk, None, OnOk, length};
 ghost use Rattle.file_devices.specs.FileLog.{bytes_of};
+ghost use Rattle.open_database.specs.DatabaseFolder.{AreFirstOf};
 
 use crate::database_folder::{DatabaseFolder, LogFault, Standing, VolumeFault};
 use crate::file_limit::low_limit;
@@ -124,6 +125,8 @@ impl<'a> DatabaseFolder for SystemDatabase<'a> {
 
     type Volume = ToldStore<'a>;
 
+    ghost held = { λ _. None };
+
     fn claim_or_wait(&mut self) -> Result<(), ClaimFault> {
         self.folder.claim_soon()
     }
@@ -178,7 +181,8 @@ impl<'a> DatabaseFolder for SystemDatabase<'a> {
     }
 
     fn log_begins(log: &File, bytes: &mut [u8]) -> io::Result<()>
-        ensures { length bytes.new ≡ length bytes.old }
+        ensures first { OnOk result (AreFirstOf None bytes.new) }
+        ensures length { length bytes.new ≡ length bytes.old }
     {
         log.read_exact_at(bytes, 0)
     }
@@ -193,6 +197,7 @@ impl<'a> DatabaseFolder for SystemDatabase<'a> {
     }
 
     fn resumed(alloc: Global, log: File, bytes: &mut [u8]) -> io::Result<FileLog>
+        ensures first { OnOk result (AreFirstOf None bytes.new) }
         ensures has { IfOk result (λ device. bytes_of device ≡ bytes.new) }
         ensures lasts { IfOk result (λ device. device.end ≡ length bytes.new) }
         ensures length { length bytes.new ≡ length bytes.old }

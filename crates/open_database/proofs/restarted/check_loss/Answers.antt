@@ -1,4 +1,4 @@
-use Rattle.std.proofs.Common.{◌≡◌, ℕ, List, subst}
+use Rattle.std.proofs.Common.{ℕ, List, subst}
 use Rattle.log_front.specs.Front.{end_of}
 use Rattle.open_database.specs.Evidence.{LacksNothing}
 use Rattle.open_database.specs.Master.{spelled}

@@ -1,12 +1,13 @@
-use Rattle.std.proofs.Common.{ap, ◌∙◌}
+use Rattle.std.proofs.Common.{ap, length, sym, ◌∙◌}
 use Rattle.log_front.specs.Front.{end_of}
+use Rattle.log_records.specs.Log.{Log}
 use Rattle.engine_rules.specs.EngineState.{EngineState}
-use Rattle.open_database.proofs.Reopened.{goes_on_with, is_counted}
+use Rattle.open_database.proofs.Reopened.{goes_on_with, is_counted, told_is}
 use Rattle.open_database.proofs.restarted.go_on.Goals as goal
 
 pub equip-requires-clause-counted : goal.equip-requires-clause-counted
 equip-requires-clause-counted g c =
-    is_counted c.args.found.front.log c.in_ok-restarted.restarted.log c.of-facts.ensures
+    is_counted c.args.found.front.log c.in_ok-restarted.restarted.log c.of-facts.ensures.log
     c.in_ok-restarted.ensures.log
 
 pub returns-clause-goes_on : goal.returns-clause-goes_on
@@ -15,3 +16,11 @@ returns-clause-goes_on g c =
     c.equip.new.restarted c.in_ok-engine.engine.state (c.end-end.ensures ∙ ap end_of c.log.ensures.log) c.in_ok-restarted.ensures.log c.in_ok-restarted.ensures.copies c.equip.ensures.log
     c.in_ok-store.ensures.taken c.in_ok-engine.ensures.goes_on
     (ap (λ (s : EngineState). s.copies) c.in_ok-engine.ensures.state)
+
+pub returns-clause-told : goal.returns-clause-told
+returns-clause-told g c =
+    told_is c.args.found.front.log c.of-facts.result.end c.of-facts.result.taken_back
+    (length c.in_ok-restarted.restarted.log.records) c.in_ok-engine.engine.state c.first_line-first.result
+    c.first_line-first.ensures c.of-facts.ensures.cut c.of-facts.ensures.open
+    (sym (ap (λ (s : EngineState). length s.log) c.in_ok-engine.ensures.state
+    ∙ ap (λ (l : Log). length l.records) c.equip.ensures.log))

@@ -1,0 +1,86 @@
+-- The log that stands in a folder.
+use Rattle.std.proofs.Common.{◌≡◌, ◌∙◌, ℕ, List, [], ap, arith, inl, inr, length, subst, sym, take}
+use Rattle.std.specs.Prelude.{codes, Err, IfOk, None, Ok, Option, Result, Some}
+use Rattle.std.proofs.lemmas.List.{take_all}
+use Rattle.engine_rules.specs.EngineState.{EngineState}
+use Rattle.saved_files.specs.Folder.{Changes, Entries, FolderEntry, IsSame, absent, stored, unsynced}
+use Rattle.open_database.specs.DatabaseFolder.{AreOf, AreFirstOf, HasLength, HasLogBytes, HasLogOf, IsWithoutLog, IsLogIn}
+use Rattle.open_database.specs.Opened.{Begins}
+use Rattle.open_database.specs.declared.first_line.FirstLine.{FirstLine}
+use Rattle.open_database.specs.declared.log_file.LogFile.{LogFile}
+
+-- the value, where there is one
+value_of : Option (List ℕ) → List ℕ
+value_of None = []
+value_of (Some bytes) = bytes
+
+IsNothing : Option (List ℕ) → Type 0
+IsNothing None = Unit {0}
+IsNothing (Some bytes) = ⊥
+
+-- bytes with which a file begins, as many as it has, are all of it
+all_of : (there : FolderEntry) (held : Option (List ℕ)) (len : ℕ) (bytes : List ℕ) → AreOf there held
+    → HasLength there len → AreFirstOf held bytes → length bytes ≡ len → AreOf there (Some bytes)
+unfolding IsNothing value_of
+all_of absent held len bytes are long begins count = are
+all_of unsynced held len bytes are long begins count = tt
+all_of (stored all) None len bytes are long begins count = absurd (subst IsNothing are tt)
+all_of (stored all) (Some given) len bytes are long begins count =
+    let same : given ≡ all = ap value_of are in
+    let whole : length bytes ≡ length all = count ∙ long in
+    ap Some (begins ∙ ap (λ (n : ℕ). take n given) whole ∙ ap (take (length all)) same
+    ∙ take_all (length all) all (omega arith))
+
+pub log_there : {L : Type 0} (entries : Option Entries) (held : L → Option (List ℕ)) (log : LogFile L)
+    (bytes : List ℕ) → IsLogIn entries held log → AreFirstOf (held log.file) bytes → length bytes ≡ log.len
+    → HasLogBytes entries bytes
+log_there None held log bytes is begins count = tt
+log_there (Some it) held log bytes is begins count =
+    all_of (it (codes "log")) (held log.file) log.len bytes is.0 is.1 begins count
+
+-- ---- a folder that is left as it was
+
+no_log_same : (old mid : Option Entries) → Changes IsSame old mid → IsWithoutLog mid → IsWithoutLog old
+no_log_same None mid same none = tt
+no_log_same (Some old) None same none = absurd same
+no_log_same (Some old) (Some mid) same none = sym (same (codes "log")) ∙ none
+
+log_of_same : (old mid : Option Entries) (len : ℕ) → Changes IsSame old mid → HasLogOf mid len → HasLogOf old len
+log_of_same None mid len same long = tt
+log_of_same (Some old) None len same long = absurd same
+log_of_same (Some old) (Some mid) len same long = subst (λ (e : FolderEntry). HasLength e len) (same (codes "log")) long
+
+log_same : (old mid : Option Entries) (bytes : List ℕ) → Changes IsSame old mid → HasLogBytes mid bytes → HasLogBytes old bytes
+log_same None mid bytes same there = tt
+log_same (Some old) None bytes same there = absurd same
+log_same (Some old) (Some mid) bytes same there =
+    subst (λ (e : FolderEntry). AreOf e (Some bytes)) (same (codes "log")) there
+
+pub begins_same : (old mid : Option Entries) (log : Option ℕ) (ids : List ℕ) (told : Option ℕ) (frames : ℕ)
+    (first : FirstLine) (engine : EngineState) → Changes IsSame old mid → Begins mid log ids told frames first engine
+    → Begins old log ids told frames first engine
+begins_same old mid None ids told frames first engine same begins = (no_log_same old mid same begins.0, begins.1)
+begins_same old mid (Some len) ids told frames first engine same begins = elim begins [
+  | inl new ↦ inl (log_of_same old mid len same new.0, new.1, new.2)
+  | inr it ↦ inr (record {
+    bytes = it.bytes;
+    there = log_same old mid it.bytes same it.there;
+    all = it.all;
+    log = it.log;
+    cut = it.cut;
+    front = it.front;
+    files = it.files;
+    heard = it.heard;
+    goes_on = it.goes_on;
+    told = it.told;
+  })
+]
+
+-- it was opened behind a claim that left the folder as it was
+pub opened_in : {T E : Type 0} (r : Result T E) (first : T → FirstLine) (state : T → EngineState)
+    (old mid : Option Entries) (log : Option ℕ) (ids : List ℕ) (told : Option ℕ) (frames : ℕ) → Changes IsSame old mid
+    → IfOk r (λ it. Begins mid log ids told frames (first it) (state it))
+    → IfOk r (λ it. (l : Option ℕ) × (is : List ℕ) × Begins old l is told frames (first it) (state it))
+opened_in (Ok it) first state old mid log ids told frames same begins =
+    (log, ids, begins_same old mid log ids told frames (first it) (state it) same begins)
+opened_in (Err why) first state old mid log ids told frames same begins = tt
