@@ -14,8 +14,8 @@
 #                 that what the documents name is there
 # make crate      with NAME=CRATE, for a change to one crate: proves it and its tests, tries all of its wrong bodies, and
 #                 runs the checks on build/imgcopy, if that is there
-# make simulate   plays the databases of SEEDS=10000 seeds, from FIRST=1 on, whose power is cut again and again, and compares
-#                 what each cut leaves; it proves and builds the program that does so first
+# make simulate   plays the databases of SEEDS=10000 seeds, from FIRST=1 on: an engine and an open database each, whose power
+#                 is cut again and again; it compares what each cut leaves, and proves and builds the program first
 # make plants     tries all wrong bodies, those of the gate too; with SAMPLE=20 so many, which hang on the commit's hash,
 #                 and with CRATES="NAME NAME" those of some crates; it works on a copy of the crates
 # make bench      measures the program beside a plain Rust program, prints a table, and draws bench/times.svg; it measures

@@ -1,7 +1,8 @@
 //! How much was played.
 
 /// How many cuts, lives, commits and restored copies there were, and after how many cuts a torn write
-/// had spelled a record that nobody wrote.
+/// had spelled a record that nobody wrote; how many folders were looked at behind a cut or the end of a
+/// process, and how many of them were refused.
 #[derive(Clone, Copy, Default)]
 pub struct Counts {
     pub cuts: u64,
@@ -9,6 +10,8 @@ pub struct Counts {
     pub commits: u64,
     pub copies: u64,
     pub strange: u64,
+    pub folders: u64,
+    pub refused: u64,
 }
 
 impl Counts {
@@ -30,6 +33,16 @@ impl Counts {
     /// So many copies were restored.
     pub fn restored(&mut self, count: u64) {
         self.copies = self.copies.saturating_add(count);
+    }
+
+    /// A folder was looked at.
+    pub fn looked(&mut self) {
+        self.folders = self.folders.saturating_add(1);
+    }
+
+    /// A folder was refused, as it may be.
+    pub fn refused(&mut self) {
+        self.refused = self.refused.saturating_add(1);
     }
 
     /// A log has a record that nobody wrote.

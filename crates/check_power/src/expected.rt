@@ -23,6 +23,19 @@ struct Unsure {
     made: Made,
 }
 
+impl Unsure {
+    fn copied(&self, alloc: Global) -> Result<Unsure, AllocError> {
+        let made = match &self.made {
+            Made::Commit(changes) => Made::Commit(Vec::from_slice(alloc, changes)?),
+            Made::Growth(pages) => Made::Growth(*pages),
+        };
+        Ok(Unsure {
+            lsn: self.lsn,
+            made,
+        })
+    }
+}
+
 /// The numbers that are committed for certain; what came behind them, in order of the LSNs; and the
 /// transactions that are open.
 #[derive(Drop)]
@@ -46,6 +59,43 @@ impl Expected {
             pages,
             commits: 0,
         })
+    }
+
+    /// The same.
+    pub fn copied(&self, alloc: Global) -> Result<Expected, AllocError> {
+        let mut unsure = Vec::new(alloc);
+        for it in &self.unsure {
+            unsure.push(it.copied(alloc)?)?;
+        }
+        let mut txns = Vec::new(alloc);
+        for it in &self.txns {
+            txns.push(it.copied(alloc)?)?;
+        }
+        Ok(Expected {
+            sure: self.sure.copied(alloc)?,
+            unsure,
+            txns,
+            pages: self.pages,
+            commits: self.commits,
+        })
+    }
+
+    /// Takes note of a call that was not answered: it may be done.
+    pub fn leave_open(&mut self, event: &Event) -> Result<(), Wrong> {
+        let lsn = Lsn(u64::MAX);
+        match event {
+            Event::Commit(txn) if !self.is_rolling(*txn) => self.end(*txn, lsn),
+            Event::Extend(pages) if *pages > self.pages => {
+                let made = Made::Growth(*pages);
+                self.unsure.push(Unsure { lsn, made })?;
+                Ok(())
+            }
+            _ => Ok(()),
+        }
+    }
+
+    fn is_rolling(&self, txn: TxnNo) -> bool {
+        self.txns.iter().any(|it| it.txn == txn && it.is_rolling)
     }
 
     /// The open transactions.

@@ -1,5 +1,6 @@
 //! The calls that are made, as they are drawn.
 
+use crate::ask::{Ask, Word};
 use crate::chance::Chance;
 use crate::expected::Expected;
 use crate::numbers::MOST_PAGES;
@@ -28,6 +29,29 @@ impl Hand {
             last_copy,
             is_ckpt_open: false,
             is_gathered: false,
+        }
+    }
+
+    /// The last complete copy.
+    pub fn last_copy(&self) -> CopyId {
+        self.last_copy
+    }
+
+    /// Takes note of a complete copy that one word made.
+    pub fn has_copied(&mut self, id: CopyId) {
+        self.last_copy = id;
+    }
+
+    /// Draws a line: a call, or seldom a word or a line that is wrong.
+    pub fn draw_line(&self, chance: &mut Chance, known: &Expected) -> Ask {
+        match chance.below(48) {
+            0 => Ask::Word(Word::Checkpoint),
+            1 => Ask::Word(Word::Flush),
+            2 => Ask::Word(Word::Copy),
+            3 => Ask::Word(Word::CopyOn(self.last_copy.0)),
+            4 if chance.one_in(4) => Ask::Word(Word::Status),
+            5 if chance.one_in(4) => Ask::Word(Word::Bad),
+            _ => Ask::Call(self.draw(chance, known)),
         }
     }
 

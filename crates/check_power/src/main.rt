@@ -2,20 +2,27 @@
 //! replies that were given.
 #![tactic(auto)]
 
+mod ask;
 mod chance;
 mod copies;
 mod counts;
 mod database;
 mod drive;
 mod expected;
+mod folder_database;
 mod hand;
+mod heard;
+mod left_log;
 mod lost;
 mod numbers;
 mod open_txn;
 mod opening;
 mod platter;
+mod restored;
+mod spoil;
 mod step;
 mod trouble;
+mod user;
 mod wrong;
 
 ghost use Rattle.buffer_pool.specs.Pool.{IsFrameCount};
@@ -26,16 +33,50 @@ use chance::Chance;
 use command_words::words_of;
 use counts::Counts;
 use database::Database;
+use folder_database::FolderDatabase;
 use std::alloc::Global;
 use std::process::ExitCode;
 use std::thread::Threads;
+use test_simulator::Call;
 use wrong::Wrong;
 
-/// How many seeds are played, and the first one.
-fn seeds_of(words: &[String]) -> Option<(u64, u64)> {
-    match words {
-        [seeds] => Some((seeds.as_str().parse().ok()?, 1)),
-        [seeds, first] => Some((seeds.as_str().parse().ok()?, first.as_str().parse().ok()?)),
+/// What is played: so many seeds, from the first one on. Where syncs of a kind are ignored, databases in
+/// folders alone.
+#[derive(Clone, Copy)]
+struct Plan {
+    seeds: u64,
+    first: u64,
+    ignored: Option<Call>,
+}
+
+fn plan_of(words: &[String]) -> Option<Plan> {
+    let (seeds, first, ignored) = match words {
+        [seeds] => (number_in(seeds.as_str())?, 1, None),
+        [seeds, first] => (number_in(seeds.as_str())?, number_in(first.as_str())?, None),
+        [seeds, first, sync] => (
+            number_in(seeds.as_str())?,
+            number_in(first.as_str())?,
+            Some(sync_of(sync.as_str())?),
+        ),
+        _ => return None,
+    };
+    Some(Plan {
+        seeds,
+        first,
+        ignored,
+    })
+}
+
+fn number_in(word: &str) -> Option<u64> {
+    word.parse().ok()
+}
+
+/// The syncs of this name.
+fn sync_of(word: &str) -> Option<Call> {
+    match word {
+        "log" => Some(Call::SyncLog),
+        "files" => Some(Call::Sync),
+        "names" => Some(Call::SyncNames),
         _ => None,
     }
 }
@@ -69,19 +110,46 @@ fn play(
     Ok(())
 }
 
+/// Plays the lives of the folder of a seed.
+fn play_folder(
+    rt: &(impl Threads + Sync),
+    alloc: Global,
+    seed: u64,
+    ignored: Option<Call>,
+    counts: &mut Counts,
+) -> Result<(), Wrong> {
+    let mut chance = Chance::of(seed);
+    let setup = draw_setup(&mut chance);
+    let mut database = FolderDatabase::new(alloc, setup, ignored)?;
+    for _ in 0..1 + chance.below(4) {
+        match database.live(rt, &mut chance, counts)? {
+            Some(next) => database = next,
+            None => return Ok(()),
+        }
+    }
+    counts.committed(database.commits());
+    Ok(())
+}
+
 fn main(rt: HostRuntime) -> ExitCode {
     let alloc = rt.alloc();
     let Ok(words) = words_of(&rt) else {
         return ExitCode::from(2);
     };
-    let Some((seeds, first)) = seeds_of(words.as_slice()) else {
-        let _ = rt.eprintln("usage: check_power SEEDS [FIRST]");
+    let Some(plan) = plan_of(words.as_slice()) else {
+        let _ = rt.eprintln("usage: check_power SEEDS [FIRST [log|files|names]]");
         return ExitCode::from(2);
     };
     let mut counts = Counts::default();
-    for seed in first..first.saturating_add(seeds) {
-        if let Err(wrong) = play(&rt, alloc, seed, &mut counts) {
+    for seed in plan.first..plan.first.saturating_add(plan.seeds) {
+        if plan.ignored.is_none()
+            && let Err(wrong) = play(&rt, alloc, seed, &mut counts)
+        {
             let _ = println!(rt; "seed {seed}: {wrong}");
+            return ExitCode::from(1);
+        }
+        if let Err(wrong) = play_folder(&rt, alloc, seed, plan.ignored, &mut counts) {
+            let _ = println!(rt; "seed {seed}: in a folder {wrong}");
             return ExitCode::from(1);
         }
     }
@@ -91,9 +159,11 @@ fn main(rt: HostRuntime) -> ExitCode {
         commits,
         copies,
         strange,
+        folders,
+        refused,
     } = counts;
     let _ = println!(rt;
-        "cuts {cuts} lives {lives} commits {commits} copies {copies} strange {strange}"
+        "cuts {cuts} lives {lives} commits {commits} copies {copies} strange {strange} folders {folders} refused {refused}"
     );
     ExitCode::SUCCESS
 }

@@ -60,6 +60,14 @@ impl Numbers {
         Ok(Numbers { pages, slots })
     }
 
+    /// The same.
+    pub fn copied(&self, alloc: Global) -> Result<Numbers, AllocError> {
+        Ok(Numbers {
+            pages: self.pages,
+            slots: Vec::from_slice(alloc, &self.slots)?,
+        })
+    }
+
     /// The number in a slot.
     pub fn number(&self, page: PageNo, slot: SlotNo) -> u64 {
         match self.slots.get(place_of(page, slot)) {

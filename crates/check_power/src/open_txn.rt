@@ -4,7 +4,7 @@ use crate::numbers::{Change, SlotChange};
 use crate::wrong::Wrong;
 use aries_core::{Answer, Event};
 use page_core::{Lsn, TxnNo};
-use std::alloc::Global;
+use std::alloc::{AllocError, Global};
 
 /// How many changes were pending at a savepoint.
 #[derive(Clone, Copy)]
@@ -31,6 +31,16 @@ impl OpenTxn {
             changes: Vec::new(alloc),
             marks: Vec::new(alloc),
         }
+    }
+
+    /// The same.
+    pub fn copied(&self, alloc: Global) -> Result<OpenTxn, AllocError> {
+        Ok(OpenTxn {
+            txn: self.txn,
+            is_rolling: self.is_rolling,
+            changes: Vec::from_slice(alloc, &self.changes)?,
+            marks: Vec::from_slice(alloc, &self.marks)?,
+        })
     }
 
     /// Its pending changes.

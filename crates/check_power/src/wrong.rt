@@ -1,7 +1,7 @@
 //! What differed from what was expected.
 
 use std::alloc::{AllocError, AllocFailed};
-use std::fmt;
+use std::{fmt, io};
 
 /// What differed. Its text is its line.
 #[derive(Clone, Copy, Debug)]
@@ -48,6 +48,28 @@ pub enum Wrong {
     OtherVolume {
         copy: u32,
     },
+    /// What was typed and told could not be heard.
+    NotHeard,
+    /// A file that has its name is not whole.
+    NotWhole {
+        file: u64,
+    },
+    /// A folder was refused in which nothing is wrong, or was not closed well.
+    Refused,
+    /// What is left of a folder was not opened.
+    NotSalvaged,
+    /// A folder that was refused has other files.
+    Touched,
+    /// A volume of a closed database is not whole.
+    NoVolume,
+    /// Bytes that a manifest names are damaged, and the log was opened.
+    BelowManifest {
+        at: u64,
+    },
+    /// The file of a complete copy, or of its checkpoint, is not there.
+    Gone {
+        copy: u32,
+    },
 }
 
 impl fmt::Display for Wrong {
@@ -69,12 +91,26 @@ impl fmt::Display for Wrong {
             Wrong::NotTakenUp { copy } => write!(f, "copy {copy} was not taken up"),
             Wrong::NotRestored { copy } => write!(f, "copy {copy} was not restored"),
             Wrong::OtherVolume { copy } => write!(f, "copy {copy} restored another volume"),
+            Wrong::NotHeard => f.write_str("what was typed and told was not heard"),
+            Wrong::NotWhole { file } => write!(f, "file {file} has its name and is not whole"),
+            Wrong::Refused => f.write_str("a folder was refused, and nothing was wrong"),
+            Wrong::NotSalvaged => f.write_str("what is left was not salvaged"),
+            Wrong::Touched => f.write_str("a folder that was refused has other files"),
+            Wrong::NoVolume => f.write_str("the volume of a closed database is not whole"),
+            Wrong::BelowManifest { at } => write!(f, "byte {at} is damaged, and was named"),
+            Wrong::Gone { copy } => write!(f, "the file of copy {copy} is gone"),
         }
     }
 }
 
 impl From<AllocError> for Wrong {
     fn from(_error: AllocError) -> Wrong {
+        Wrong::OutOfMemory
+    }
+}
+
+impl From<io::Error> for Wrong {
+    fn from(_error: io::Error) -> Wrong {
         Wrong::OutOfMemory
     }
 }

@@ -1,19 +1,24 @@
 //! The disk of a log on a machine.
 
-ghost use Rattle.std.specs.Prelude.{IsTrue, IfOk};
+ghost use Rattle.std.specs.Prelude.{◌≡◌, ◌+◌, ◌&&◌, ◌↔◌, not, false, IsErr, IsTrue, IfOk};
+ghost use Rattle.sqlite_disk.specs.Disk.{CountsFault};
 ghost use Rattle.sqlite_disk.specs.Memory.{memory_is_usable};
+ghost use Rattle.sqlite_disk.specs.Refusal.{finds_no_room};
 
 use crate::machine::Machine;
+use crate::trouble::Call;
 use sqlite_disk::{Disk, Memory, Tally};
 use std::alloc::Global;
 use std::io;
 
-/// The disk of a log, whose calls the machine sees too.
+/// The disk of a log, whose calls the machine sees too. A call fails where the machine's does.
 #[derive(Drop)]
 pub struct SimulatedDisk<'a, D: Disk> {
     inner: D,
     machine: &'a Machine,
     file: usize,
+    refused: u64,
+    sync_refused: bool,
 }
 
 impl<'a> SimulatedDisk<'a, Memory> {
@@ -24,7 +29,8 @@ impl<'a> SimulatedDisk<'a, Memory> {
         file: usize,
         bytes: &[u8],
     ) -> io::Result<SimulatedDisk<'a, Memory>>
-        ensures { IfOk result (λ disk. IsTrue (memory_is_usable disk.inner)) }
+        ensures usable { IfOk result (λ disk. IsTrue (memory_is_usable disk.inner)) }
+        ensures fresh { IfOk result (λ disk. disk.sync_refused ≡ false) }
     {
         let mut inner = Memory::new(alloc);
         inner.write_at(0, bytes)?;
@@ -33,6 +39,8 @@ impl<'a> SimulatedDisk<'a, Memory> {
             inner,
             machine,
             file,
+            refused: 0,
+            sync_refused: false,
         })
     }
 }
@@ -42,9 +50,9 @@ impl<D: Disk> Disk for SimulatedDisk<'_, D> {
 
     ghost may_leave = { λ it. D.Disk.may_leave it.inner };
 
-    ghost is_usable = { λ it. D.Disk.is_usable it.inner };
+    ghost is_usable = { λ it. D.Disk.is_usable it.inner && not it.sync_refused };
 
-    ghost faults = { λ it. D.Disk.faults it.inner };
+    ghost faults = { λ it. D.Disk.faults it.inner + it.refused };
 
     ghost tally_of = { λ it. D.Disk.tally_of it.inner };
 
@@ -73,7 +81,7 @@ impl<D: Disk> Disk for SimulatedDisk<'_, D> {
     }
 
     fn may_be_used(&self) -> bool {
-        self.inner.may_be_used()
+        self.inner.may_be_used() && !self.sync_refused
     }
 
     fn len(&mut self) -> io::Result<usize> {
@@ -89,35 +97,57 @@ impl<D: Disk> Disk for SimulatedDisk<'_, D> {
     }
 
     fn write_at(&mut self, at: usize, bytes: &[u8]) -> io::Result<()> {
-        note_write(self.machine, self.file, at, bytes);
+        let fails = !writes(self.machine, self.file, at, bytes);
+        ask(&mut self.refused, fails)?;
         self.inner.write_at(at, bytes)
     }
 
     fn set_len(&mut self, len: usize) -> io::Result<()> {
-        note_len(self.machine, self.file, len);
+        let fails = !sets_len(self.machine, self.file, len);
+        ask(&mut self.refused, fails)?;
         self.inner.set_len(len)
     }
 
     fn sync(&mut self) -> io::Result<()> {
-        note_sync(self.machine, self.file);
+        let fails = !syncs(self.machine, self.file);
+        if let Err(error) = ask(&mut self.refused, fails) {
+            self.sync_refused = true;
+            return Err(error);
+        }
         self.inner.sync()
     }
 }
 
-fn note_write(machine: &Machine, file: usize, at: usize, bytes: &[u8]) {
-    if let Ok(mut state) = machine.state.try_borrow_mut() {
-        let _ = state.write(file, at, bytes);
+/// Fails, and counts that, if the call is to fail.
+fn ask(refused: &mut u64, fails: bool) -> io::Result<()>
+    ensures faults { CountsFault result refused.old refused.new }
+    ensures kind { finds_no_room result ≡ false }
+    ensures exact { IsErr result ↔ IsTrue fails }
+{
+    if fails {
+        *refused = refused.saturating_add(1);
+        return Err(io::Error::other("the call is to fail"));
+    }
+    Ok(())
+}
+
+fn writes(machine: &Machine, file: usize, at: usize, bytes: &[u8]) -> bool {
+    match machine.state.try_borrow_mut() {
+        Ok(mut state) => state.write(Call::WriteLog, file, at, bytes).is_ok(),
+        Err(_) => false,
     }
 }
 
-fn note_len(machine: &Machine, file: usize, len: usize) {
-    if let Ok(mut state) = machine.state.try_borrow_mut() {
-        let _ = state.set_len(file, len);
+fn sets_len(machine: &Machine, file: usize, len: usize) -> bool {
+    match machine.state.try_borrow_mut() {
+        Ok(mut state) => state.set_len(Call::WriteLog, file, len).is_ok(),
+        Err(_) => false,
     }
 }
 
-fn note_sync(machine: &Machine, file: usize) {
-    if let Ok(mut state) = machine.state.try_borrow_mut() {
-        let _ = state.sync(file);
+fn syncs(machine: &Machine, file: usize) -> bool {
+    match machine.state.try_borrow_mut() {
+        Ok(mut state) => state.sync(Call::SyncLog, file).is_ok(),
+        Err(_) => false,
     }
 }

@@ -4,6 +4,8 @@ ghost use Rattle.std.specs.Prelude.{None};
 
 use crate::disk::SimulatedDisk;
 use crate::machine::{Machine, busy, copied};
+use crate::trouble::Call;
+use crate::volume::SimulatedVolume;
 use file_devices::FileLog;
 use open_database::{DatabaseFolder, LogFault, LogFile, Standing, VolumeFault};
 use page_store::MemStore;
@@ -74,7 +76,7 @@ impl Write for SimulatedOutput<'_> {
 impl Write for SimulatedFile<'_> {
     fn write(&mut self, buf: &[u8]) -> io::Result<usize> {
         match self.machine.state.try_borrow_mut() {
-            Ok(mut state) => state.write(self.file, self.len, buf)?,
+            Ok(mut state) => state.write(Call::Write, self.file, self.len, buf)?,
             Err(_) => return Err(busy()),
         }
         self.len = self.len.saturating_add(buf.len());
@@ -98,9 +100,10 @@ impl Read for SimulatedReader {
 impl SimulatedFolder<'_> {
     /// The bytes of the file of this name, if it is there.
     fn bytes_of(&self, name: &str) -> io::Result<Option<Vec<u8>>> {
-        let Ok(state) = self.machine.state.try_borrow() else {
+        let Ok(mut state) = self.machine.state.try_borrow_mut() else {
             return Err(busy());
         };
+        state.read()?;
         match state.file_of(name) {
             Some(file) => Ok(Some(copied(self.alloc, state.bytes_of(file))?)),
             None => Ok(None),
@@ -155,7 +158,7 @@ impl<'a> Folder for SimulatedFolder<'a> {
 
     fn sync(&mut self, _name: &str, file: &SimulatedFile<'a>) -> io::Result<()> {
         match self.machine.state.try_borrow_mut() {
-            Ok(mut state) => state.sync(file.file),
+            Ok(mut state) => state.sync(Call::Sync, file.file),
             Err(_) => Err(busy()),
         }
     }
@@ -193,7 +196,9 @@ impl<'a> DatabaseFolder for SimulatedFolder<'a> {
 
     type LogDisk = SimulatedDisk<'a, Memory>;
 
-    type Volume = MemStore;
+    type Volume = SimulatedVolume<'a>;
+
+    ghost held = { λ _. None };
 
     fn claim_or_wait(&mut self) -> Result<(), ClaimFault> {
         Ok(())
@@ -201,9 +206,10 @@ impl<'a> DatabaseFolder for SimulatedFolder<'a> {
 
     fn names(&self) -> io::Result<Vec<String>> {
         let mut names = Vec::new(self.alloc);
-        let Ok(state) = self.machine.state.try_borrow() else {
+        let Ok(mut state) = self.machine.state.try_borrow_mut() else {
             return Err(busy());
         };
+        state.read()?;
         for entry in &state.entries {
             names.push(String::from_str(self.alloc, entry.name.as_str())?)?;
         }
@@ -298,12 +304,27 @@ impl<'a> DatabaseFolder for SimulatedFolder<'a> {
         }
     }
 
-    fn volume_begins(&self, _bytes: &mut [u8]) -> io::Result<Standing<usize>> {
-        Ok(Standing::Nothing)
+    fn volume_begins(&self, bytes: &mut [u8]) -> io::Result<Standing<usize>> {
+        let Some(there) = self.bytes_of("volume")? else {
+            return Ok(Standing::Nothing);
+        };
+        let mut count = 0usize;
+        for (byte, first) in bytes.iter_mut().zip(there.iter()) {
+            *byte = *first;
+            count = count.saturating_add(1);
+        }
+        Ok(Standing::File(count))
     }
 
-    fn make_volume(&mut self, pages: MemStore) -> Result<MemStore, VolumeFault> {
-        Ok(pages)
+    fn make_volume(&mut self, pages: MemStore) -> Result<SimulatedVolume<'a>, VolumeFault> {
+        let file = match self.file_of("volume")? {
+            Some(file) => file,
+            None => match self.machine.state.try_borrow_mut() {
+                Ok(mut state) => state.make("volume")?,
+                Err(_) => return Err(VolumeFault::System(busy())),
+            },
+        };
+        Ok(SimulatedVolume::new(self.machine, file, pages)?)
     }
 
     fn low_limit(&self) -> Result<Option<u64>, AllocError> {

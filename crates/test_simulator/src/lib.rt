@@ -1,4 +1,4 @@
-//! A machine in memory on which a database lives, whose power is cut.
+//! A machine in memory on which a database lives, whose power is cut, and whose calls fail.
 #![tactic(auto)]
 
 mod cut;
@@ -8,9 +8,13 @@ mod folder;
 #[cfg(test)]
 mod lives;
 mod machine;
+mod trouble;
+mod volume;
 
-pub use cut::left_of;
+pub use cut::Remains;
 pub use disk::SimulatedDisk;
 pub use draw::Draw;
 pub use folder::{SimulatedFile, SimulatedFolder, SimulatedLog, SimulatedOutput, SimulatedReader};
 pub use machine::{Entry, Machine, State, Step};
+pub use trouble::{Call, Trouble};
+pub use volume::SimulatedVolume;

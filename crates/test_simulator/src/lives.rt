@@ -1,18 +1,18 @@
 //! Databases that live on a machine whose power is cut: no commit that was answered is lost.
 
-use crate::cut::left_of;
+use crate::cut::Remains;
 use crate::draw::Draw;
 use crate::folder::{SimulatedFolder, SimulatedOutput, SimulatedReader};
-use crate::machine::{Machine, State, Step, copied};
+use crate::machine::{Machine, Step, copied};
 use open_database::{OpenCall, OpenEnd, open_in};
 use std::alloc::Global;
 use std::io;
 use std::io::ErrorKind;
 use std::process::Abort;
 
-const SEEDS: u64 = 4;
+const SEEDS: u64 = 2;
 
-const CUTS: u64 = 25;
+const CUTS: u64 = 5;
 
 const PAGES: u32 = 4;
 
@@ -83,9 +83,10 @@ fn reads(alloc: Global) -> io::Result<String> {
     Ok(script)
 }
 
-/// A life of the database on a machine with these files. Answers the steps of the machine.
-fn life(alloc: Global, first: &State, script: &str) -> io::Result<(OpenEnd, State)> {
-    let machine = Machine::new(first.copied()?);
+/// A life of the database on a machine.
+fn life(alloc: Global, remains: Remains, script: &str) -> io::Result<(OpenEnd, Remains)> {
+    let Remains { first, now } = remains;
+    let machine = Machine::new(now);
     let call = OpenCall {
         folder: "",
         pages: Some(PAGES),
@@ -97,10 +98,11 @@ fn life(alloc: Global, first: &State, script: &str) -> io::Result<(OpenEnd, Stat
         alloc,
         machine: &machine,
     };
-    let input = SimulatedReader::new(copied(alloc, script.as_bytes())?);
-    let output = SimulatedOutput { machine: &machine };
-    let end = open_in(alloc, folder, &call, input, output);
-    Ok((end, machine.into_state()))
+    let mut input = SimulatedReader::new(copied(alloc, script.as_bytes())?);
+    let mut output = SimulatedOutput { machine: &machine };
+    let end = open_in(alloc, folder, &call, &mut input, &mut output);
+    let now = machine.into_state();
+    Ok((end, Remains { first, now }))
 }
 
 /// All that was told in these steps.
@@ -149,63 +151,33 @@ fn are_kept(commits: &[Committed], answered: usize, numbers: &[u64; NUMBERS]) ->
 }
 
 /// Cuts the power once in a life, and once in the opening behind it, and looks at what is left.
-fn is_kept_at(
-    rt: &HostRuntime,
-    plan: &Plan,
-    first: &State,
-    lived: &State,
-    draw: &mut Draw,
-) -> io::Result<bool> {
-    let alloc = rt.alloc();
+fn is_kept_at(alloc: Global, plan: &Plan, lived: &Remains, draw: &mut Draw) -> io::Result<bool> {
     let reads = reads(alloc)?;
-    let at = draw.below(lived.steps.len() as u64) as usize;
-    let steps = lived.steps.get(..at).unwrap_or(&[]);
-    let told = told_in(alloc, steps)?;
+    let at = draw.below(lived.now.steps.len() as u64) as usize;
+    let told = told_in(alloc, lived.now.steps.get(..at).unwrap_or(&[]))?;
     if told.is_empty() {
         // Until it is opened, the header of a new log may be torn.
         return Ok(true);
     }
     // The first line is no answer.
     let answered = line_count(&told).saturating_sub(1);
-    let left = left_of(first, steps, draw)?;
-    let (_, again) = life(alloc, &left, reads.as_str())?;
-    let at = draw.below(again.steps.len() as u64) as usize;
-    let left = left_of(&left, again.steps.get(..at).unwrap_or(&[]), draw)?;
-    let (end, last) = life(alloc, &left, reads.as_str())?;
-    let numbers = numbers_in(&told_in(alloc, &last.steps)?);
-    let is = end == OpenEnd::Well && are_kept(&plan.commits, answered, &numbers);
-    if !is {
-        let told = told_in(alloc, &last.steps)?;
-        let text = std::str::from_utf8(&told).unwrap_or("");
-        let before = told_in(alloc, steps)?;
-        let earlier = std::str::from_utf8(&before).unwrap_or("");
-        let failed = end == OpenEnd::Failed;
-        let length = match left.file_of("log") {
-            Some(file) => left.bytes_of(file).len(),
-            None => 0,
-        };
-        println!(rt;
-            "cut at {at} answered {answered} failed {failed} log {length} told [{text}] before [{earlier}]"
-        )?;
-        for entry in &left.entries {
-            println!(rt; "name {}", entry.name)?;
-        }
-    }
-    Ok(is)
+    let (_, again) = life(alloc, lived.cut(at, draw)?, reads.as_str())?;
+    let at = draw.below(again.now.steps.len() as u64) as usize;
+    let (end, last) = life(alloc, again.cut(at, draw)?, reads.as_str())?;
+    let numbers = numbers_in(&told_in(alloc, &last.now.steps)?);
+    Ok(end == OpenEnd::Well && are_kept(&plan.commits, answered, &numbers))
 }
 
 /// The first cut of a seed that loses a commit.
-fn lost_at(rt: &HostRuntime, seed: u64) -> io::Result<Option<u64>> {
-    let alloc = rt.alloc();
+fn lost_at(alloc: Global, seed: u64) -> io::Result<Option<u64>> {
     let mut draw = Draw::new(seed);
     let plan = plan_of(alloc, &mut draw)?;
-    let first = State::new(alloc);
-    let (end, lived) = life(alloc, &first, plan.script.as_str())?;
+    let (end, lived) = life(alloc, Remains::new(alloc), plan.script.as_str())?;
     if end != OpenEnd::Well {
         return Err(io::Error::from(ErrorKind::Other));
     }
     for cut in 0..CUTS {
-        if !is_kept_at(rt, &plan, &first, &lived, &mut draw)? {
+        if !is_kept_at(alloc, &plan, &lived, &mut draw)? {
             return Ok(Some(cut));
         }
     }
@@ -215,7 +187,7 @@ fn lost_at(rt: &HostRuntime, seed: u64) -> io::Result<Option<u64>> {
 #[test]
 fn no_commit_is_lost(rt: HostRuntime) {
     for seed in 1..=SEEDS {
-        match lost_at(&rt, seed) {
+        match lost_at(rt.alloc(), seed) {
             Ok(None) => {}
             Ok(Some(cut)) => panic!(rt; "seed {seed} loses a commit at cut {cut}"),
             Err(error) => panic!(rt; "seed {seed}: {error}"),
