@@ -6,6 +6,8 @@ mod PowerCuts
 mod Puts
 mod Reopened
 mod Runs
+mod SecondFolders
+mod SecondNames
 mod Served
 mod Spelled
 mod SummedLog

@@ -1,14 +1,22 @@
--- What a backup makes: a checkpoint, and a copy behind it.
-use Rattle.std.specs.Prelude.{ℕ, ◌≡◌, Bool, true, false, List, None, Option, Ok, Some}
+-- What a backup makes: a checkpoint, a copy behind it, and files in a second folder.
+use Rattle.std.specs.Prelude.{ℕ, ◌≡◌, ◌≢◌, ◌⊎◌, ◌++◌, Bool, true, false, codes, List, None, Option}
+use Rattle.std.specs.Prelude.{Ok, Some}
+use Rattle.std.specs.Io.{StartsWith}
+use Rattle.std.specs.List.{All}
 use Rattle.copy_vault.specs.CopyWrite.{WritesCopy}
 use Rattle.engine_calls.specs.declared.event.Answer.{Answer}
 use Rattle.engine_rules.specs.EngineState.{EngineState}
+use Rattle.manifest.specs.Entries.{Listed, Noted, file_of}
+use Rattle.manifest.specs.Text.{manifest_text}
 use Rattle.page_core.specs.declared.page.TheConstants.{MAX_PAGES}
-use Rattle.saved_files.specs.Folder.{Entries}
+use Rattle.saved_files.specs.Folder.{Entries, FolderEntry, IsSame, KeepsOthers, absent, stored}
+use Rattle.saved_files.specs.Folder.{unsynced}
 use Rattle.saved_files.specs.PutFault.{bytes_by}
 use Rattle.saved_files.specs.Saved.{name_of}
 use Rattle.saved_files.specs.declared.saved_name.SavedName.TheVariants as saved
 use Rattle.open_database.specs.Calls.{IsAnyReply, IsOfClosing, RunsBy}
+use Rattle.open_database.specs.DatabaseFolder.{HasBytes}
+use Rattle.open_database.specs.Kept.{Names}
 use Rattle.open_database.specs.MadeFiles.{HasFile}
 use Rattle.open_database.specs.Opened.{Begins}
 use Rattle.open_database.specs.Said.{IsAnswer}
@@ -67,3 +75,137 @@ pub record WasBackedUp (full : Bool) (told : Option ℕ) : Type 0 where
   pub begins : Begins None log ids None MAX_PAGES first begun
   pub ended : EngineState
   pub backs_up : BacksUp full told begun ended
+
+-- ---- the files of a backup in a second folder
+
+-- a log that is stored there is a beginning of this one
+abbrev pub IsBeginningOf : List ℕ → FolderEntry → Type 0
+IsBeginningOf log absent = Unit {0}
+IsBeginningOf log unsynced = Unit {0}
+IsBeginningOf log (stored older) = StartsWith log older
+
+-- a copy that is stored there has the bytes of the first folder's
+abbrev pub IsCopyOf : Option Entries → List ℕ → FolderEntry → Type 0
+IsCopyOf first name absent = Unit {0}
+IsCopyOf first name unsynced = Unit {0}
+IsCopyOf first name (stored bytes) = HasBytes first name bytes
+
+-- what stands there is of the same database as this log: the log there is a beginning of it, and
+-- each of these copies that is there is the first folder's
+pub record IsOfSame (first : Option Entries) (log ids : List ℕ) (second : Entries) : Type 0 where
+  pub begins : IsBeginningOf log (second (name_of saved.Log))
+  pub same : All (λ id. IsCopyOf first (name_of (saved.Copy id))
+      (second (name_of (saved.Copy id)))) ids
+
+-- a file of the first folder stands there too: its bytes are stored, and a manifest names just them
+pub record IsBackedUp (first : Option Entries) (listed : List Noted) (name : List ℕ)
+    (second : Entries) : Type 0 where
+  pub bytes : List ℕ
+  pub read : HasBytes first name bytes
+  pub there : second name ≡ stored bytes
+  pub named : Names listed name (λ it. it ≡ bytes)
+
+-- this holds, unless a file stood there that was not synced: of that it is not known which bytes
+-- are stored, and it stays
+abbrev pub UnlessUnsynced : FolderEntry → Type 0 → Type 0
+UnlessUnsynced absent fact = fact
+UnlessUnsynced unsynced fact = Unit {0}
+UnlessUnsynced (stored bytes) fact = fact
+
+-- the log, the master record and these copies stand there too, and the log goes on from the one
+-- that stood there
+pub record AreBackedUp (first : Option Entries) (ids : List ℕ) (listed : List Noted)
+    (old new : Entries) : Type 0 where
+  pub log : IsBackedUp first listed (name_of saved.Log) new
+  pub goes_on : IsBeginningOf log.bytes (old (name_of saved.Log))
+  pub copies : All (λ id. UnlessUnsynced (old (name_of (saved.Copy id)))
+      (IsBackedUp first listed (name_of (saved.Copy id)) new)) ids
+  pub master : IsBackedUp first listed (name_of saved.Master) new
+
+-- and so does a manifest of this database, which names them
+pub record IsBackup (first : Option Entries) (ids database : List ℕ) (old new : Entries)
+    : Type 0 where
+  pub manifest : Listed
+  pub of_this : manifest.database ≡ database
+  pub files : AreBackedUp first ids manifest.entries old new
+  pub placed : new (codes "manifest") ≡ stored (manifest_text manifest)
+
+-- ---- what a backup keeps there, however it ends
+
+-- all is as it was, unless what stood there is of the same database
+abbrev pub KeepsAnother : Option Entries → List ℕ → Entries → Entries → Type 0
+KeepsAnother first ids old new = IsSame old new
+    ⊎ ((log : List ℕ) × HasBytes first (name_of saved.Log) log × IsOfSame first log ids old)
+
+-- the manifest is as it was, unless all stands there that the new one names: it is put last
+abbrev pub PutsManifestLast : Option Entries → List ℕ → List ℕ → Entries → Entries → Type 0
+PutsManifestLast first ids database old new =
+    (new (codes "manifest") ≡ old (codes "manifest")) ⊎ IsBackup first ids database old new
+
+-- a file has such a name as long as it is not whole
+abbrev pub IsUnfinished : List ℕ → Type 0
+IsUnfinished n =
+    (whole : List ℕ) × (rest : List ℕ) × (n ≡ whole ++ (codes ".unfinished-" ++ rest))
+
+-- but for the log, the master record, the manifest and what is unfinished, no file is replaced or
+-- removed
+abbrev pub KeepsOtherFiles : Entries → Entries → Type 0
+KeepsOtherFiles old new = (n : List ℕ) → n ≢ name_of saved.Log → n ≢ name_of saved.Master
+    → n ≢ codes "manifest" → ¬ IsUnfinished n → old n ≢ absent → new n ≡ old n
+
+-- so it is with all that stood there
+pub record KeepsTheRest (first : Option Entries) (ids database : List ℕ) (old new : Entries)
+    : Type 0 where
+  pub another : KeepsAnother first ids old new
+  pub last : PutsManifestLast first ids database old new
+  pub others : KeepsOtherFiles old new
+
+-- ---- the steps of a backup
+
+-- only what is unfinished is removed
+abbrev pub KeepsFinished : Entries → Entries → Type 0
+KeepsFinished old new = (n : List ℕ) → ¬ IsUnfinished n → new n ≡ old n
+
+-- each name but this one keeps what stood under it, unless it is one of an unfinished file
+abbrev pub KeepsBut : List ℕ → Entries → Entries → Type 0
+KeepsBut name old new = (n : List ℕ) → n ≢ name → ¬ IsUnfinished n → new n ≡ old n
+
+-- so does each name, but where nothing stood a copy may stand
+abbrev pub AddsCopies : Entries → Entries → Type 0
+AddsCopies old new = (n : List ℕ) → ¬ IsUnfinished n
+    → (new n ≡ old n) ⊎ ((old n ≡ absent) × StartsWith n (codes "copy-"))
+
+-- so does each name but those of the log and the master record
+abbrev pub AddsFiles : Entries → Entries → Type 0
+AddsFiles old new = (n : List ℕ) → n ≢ name_of saved.Log → n ≢ name_of saved.Master
+    → ¬ IsUnfinished n → (new n ≡ old n) ⊎ ((old n ≡ absent) × StartsWith n (codes "copy-"))
+
+-- what comes of a copy: where nothing stood, that of the first folder is put; else it stays; and
+-- just its bytes are named
+abbrev pub IsFilled : Option Entries → List Noted → List ℕ → FolderEntry → Entries → Type 0
+IsFilled first listed name absent new = IsBackedUp first listed name new
+IsFilled first listed name unsynced new = new name ≡ unsynced
+IsFilled first listed name (stored bytes) new =
+    (new name ≡ stored bytes) × Names listed name (λ it. it ≡ bytes)
+
+-- and all else is as before
+pub record FillsCopy (first : Option Entries) (listed : List Noted) (name : List ℕ)
+    (old new : Entries) : Type 0 where
+  pub filled : IsFilled first listed name (old name) new
+  pub others : KeepsOthers name old new
+
+-- so it is with each of these copies
+pub record FillsCopies (first : Option Entries) (listed : List Noted) (ids : List ℕ)
+    (old new : Entries) : Type 0 where
+  pub filled : All (λ id. IsFilled first listed (name_of (saved.Copy id))
+      (old (name_of (saved.Copy id))) new) ids
+  pub others : AddsCopies old new
+
+-- what is noted of the other names is as before
+abbrev pub NotesOnly : List ℕ → List Noted → List Noted → Type 0
+NotesOnly name old new = (n : List ℕ) → n ≢ name → file_of n new ≡ file_of n old
+
+-- what is noted of files that are no copies is as before
+abbrev pub NotesCopies : List Noted → List Noted → Type 0
+NotesCopies old new =
+    (n : List ℕ) → ¬ StartsWith n (codes "copy-") → file_of n new ≡ file_of n old

@@ -30,6 +30,19 @@ abbrev pub Opens : {T : Type 0} → Standing T → (T → Option (List ℕ)) →
 Opens given bytes None name = Unit {0}
 Opens given bytes (Some entries) name = OpensIn given bytes (entries name)
 
+-- these are all bytes of what stands there
+abbrev pub HasBytes : Option Entries → List ℕ → List ℕ → Type 0
+HasBytes entries name bytes = IfSome entries (λ it. AreOf (it name) (Some bytes))
+
+-- what was read of a name, if a file has it, is what stands there
+abbrev pub ReadsIn : {T : Type 0} → Option T → (T → List ℕ) → FolderEntry → Type 0
+ReadsIn None bytes there = there ≡ absent
+ReadsIn (Some it) bytes there = AreOf there (Some (bytes it))
+
+-- so it is as far as that is known
+abbrev pub Reads : {T : Type 0} → Option T → (T → List ℕ) → Option Entries → List ℕ → Type 0
+Reads given bytes entries name = IfSome entries (λ it. ReadsIn given bytes (it name))
+
 -- ---- the file of the log
 
 -- it has so many bytes, where it is known which are stored

@@ -1,12 +1,12 @@
 //! The files that an open database puts in place.
 
-ghost use Rattle.std.specs.Prelude.{ℕ, ◌≡◌, IfOk, List, OnOk};
+ghost use Rattle.std.specs.Prelude.{ℕ, ◌≡◌, IfOk, List, OnErr, OnOk};
 ghost use Rattle.copy_vault.specs.CopyWrite.{LeavesCopy, WritesCopy};
 ghost use Rattle.std.specs.Io.KnownBytes.{Appends};
 ghost use Rattle.log_store.specs.Master.{master_bytes};
 ghost use Rattle.manifest.specs.Sums.{IsSumOf};
 ghost use Rattle.open_database.specs.MadeFiles.{HasFile};
-ghost use Rattle.saved_files.specs.Folder.{Changes, Puts};
+ghost use Rattle.saved_files.specs.Folder.{Changes, LeavesWhole, Puts, PutsOrKeeps};
 ghost use Rattle.saved_files.specs.PutFault.{bytes_by};
 ghost use Rattle.saved_files.specs.Saved.{name_of};
 ghost use Rattle.saved_files.specs.declared.saved_name.SavedName.TheVariants as saved;
@@ -39,7 +39,8 @@ impl<S: PageStore, D: LogDevice> Source for EngineCopy<'_, S, D> {
     }
 }
 
-/// Puts a file in its place, and has its name last.
+/// Puts a file in its place, and has its name last. At a fault the name has the old file or the new
+/// one, whole, and so it has after a crash.
 pub(crate) fn place<F: Folder, S: Source>(
     folder: &mut F,
     alloc: Global,
@@ -50,6 +51,14 @@ pub(crate) fn place<F: Folder, S: Source>(
     ensures put { OnOk result (Changes (Puts (name_of file) (bytes_by (S.gives source.old)))
         (F.entries folder.old) (F.entries folder.new)) }
     ensures stored { OnOk result (F.is_stored folder.new) }
+    ensures left { OnErr result (Changes
+        (PutsOrKeeps (name_of file) (bytes_by (S.gives source.old)))
+        (F.entries folder.old) (F.entries folder.new)) }
+    // Once the names are stored a crash leaves what stands.
+    ensures crash { OnErr result (Changes
+        (LeavesWhole (name_of file) (bytes_by (S.gives source.old))
+        (F.may_leave folder.old) (F.may_leave folder.new))
+        (F.entries folder.old) (F.entries folder.new)) }
     ensures claimed { F.is_claimed folder.new }
 {
     let Ok(name) = format!(in alloc; "{file}") else {

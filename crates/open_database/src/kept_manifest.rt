@@ -165,7 +165,9 @@ pub(crate) fn without_lost<F: DatabaseFolder>(
     folder: &F,
     mut manifest: Manifest,
     copies: Option<&Vault>,
-) -> Result<(Manifest, bool), OpenFault> {
+) -> Result<(Manifest, bool), OpenFault>
+    ensures { IfOk result (λ it. it.0.database ≡ manifest.database) }
+{
     let mut has_all = true;
     for _ in 0..MOST_LINES {
         let Some(name) = lost_name(teller.alloc, folder, &manifest, copies)? else {
@@ -216,6 +218,7 @@ pub(crate) fn note_file(manifest: &mut Manifest, name: &str, file: FileSum) -> R
     ensures there { OnOk result (file_of name.now manifest.new.entries ≡ Some file) }
     ensures others { OnOk result ((other : List ℕ) → other ≢ name.now
         → file_of other manifest.new.entries ≡ file_of other manifest.old.entries) }
+    ensures database { OnOk result (manifest.new.database ≡ manifest.old.database) }
 {
     match manifest.note(name, file) {
         Ok(()) => Ok(()),

@@ -1,8 +1,9 @@
 //! The file of a manifest.
 
-ghost use Rattle.std.specs.Prelude.{OnOk, codes};
+ghost use Rattle.std.specs.Prelude.{OnErr, OnOk, codes};
 ghost use Rattle.std.specs.Io.KnownBytes.{Appends};
 ghost use Rattle.manifest.specs.Text.{manifest_text};
+ghost use Rattle.saved_files.specs.Folder.{Changes, Puts, PutsOrKeeps};
 ghost use Rattle.saved_files.specs.PutFault.{bytes_by};
 ghost use Rattle.open_database.specs.MadeFiles.{HasFile};
 
@@ -22,6 +23,12 @@ pub(crate) fn put_text<F: Folder>(
     ensures put { OnOk result (HasFile (codes "manifest")
         (bytes_by (λ old new. Appends old new (manifest_text manifest.now)))
         (F.entries folder.new)) }
+    ensures changed { OnOk result (Changes
+        (Puts (codes "manifest") (bytes_by (λ old new. Appends old new (manifest_text manifest.now))))
+        (F.entries folder.old) (F.entries folder.new)) }
+    ensures left { OnErr result (Changes (PutsOrKeeps (codes "manifest")
+        (bytes_by (λ old new. Appends old new (manifest_text manifest.now))))
+        (F.entries folder.old) (F.entries folder.new)) }
     ensures stored { OnOk result (F.is_stored folder.new) }
     ensures claimed { F.is_claimed folder.new }
 {

@@ -1,5 +1,8 @@
 //! The names of the files of a database, which stand in its folder.
 
+ghost use Rattle.std.specs.Prelude.{IsTrue};
+ghost use Rattle.open_database.specs.Backups.{IsUnfinished};
+
 use copy_vault::CopyId;
 
 /// The log.
@@ -51,7 +54,9 @@ fn is_left_out(name: &str) -> bool {
 }
 
 /// Whether a file of a database has this name as long as it is not whole.
-pub(crate) fn is_unfinished(name: &str) -> bool {
+pub(crate) fn is_unfinished(name: &str) -> bool
+    ensures { IsTrue result → IsUnfinished name.now }
+{
     match name.split_once(UNFINISHED) {
         Some((whole, number)) => number_of(number).is_some() && is_put(whole),
         None => false,
@@ -59,7 +64,9 @@ pub(crate) fn is_unfinished(name: &str) -> bool {
 }
 
 /// Whether a file of a backup in a second folder has this name as long as it is not whole.
-pub(crate) fn is_unfinished_backup(name: &str) -> bool {
+pub(crate) fn is_unfinished_backup(name: &str) -> bool
+    ensures { IsTrue result → IsUnfinished name.now }
+{
     match name.split_once(UNFINISHED) {
         Some((LOG, number)) => number_of(number).is_some(),
         _ => is_unfinished(name),

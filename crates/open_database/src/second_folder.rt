@@ -1,17 +1,24 @@
 //! The files of a backup in a second folder.
 
-ghost use Rattle.std.specs.Prelude.{◌≡◌, OnOk};
-ghost use Rattle.std.specs.Io.KnownBytes.{Appends};
-ghost use Rattle.saved_files.specs.PutFault.{bytes_by};
+ghost use Rattle.std.specs.Prelude.{◌≡◌, IfErr, IfOk, IfSome, IsSomeAnd, OnOk};
+ghost use Rattle.std.specs.Io.{StartsWith};
+ghost use Rattle.std.specs.List.{All};
+ghost use Rattle.saved_files.specs.Folder.{Changes, KeepsOthers, Puts};
 ghost use Rattle.saved_files.specs.Saved.{name_of};
+ghost use Rattle.saved_files.specs.declared.saved_name.SavedName.TheVariants as saved;
+ghost use Rattle.open_database.specs.Backups.{AddsCopies, AddsFiles, AreBackedUp, FillsCopies};
+ghost use Rattle.open_database.specs.Backups.{FillsCopy, IsBackup, IsCopyOf, IsOfSame, KeepsBut};
+ghost use Rattle.open_database.specs.Backups.{KeepsFinished, KeepsOtherFiles, KeepsTheRest};
+ghost use Rattle.open_database.specs.Backups.{NotesCopies, NotesOnly, PutsManifestLast};
+ghost use Rattle.open_database.specs.DatabaseFolder.{HasBytes, Reads};
 ghost use Rattle.open_database.specs.Kept.{Names};
-ghost use Rattle.open_database.specs.MadeFiles.{HasFile};
+ghost use Rattle.open_database.specs.declared.fault.OpenFault.TheVariants as fault;
+ghost use Rattle.open_database.specs.declared.place.Place.TheVariants as place;
 
 use crate::database_folder::DatabaseFolder;
 use crate::engine_files::{place, sum_of};
 use crate::fault::OpenFault;
 use crate::found_manifest::read_manifest;
-use crate::inventory::remove_all;
 use crate::kept_manifest::{note_file, without_lost};
 use crate::manifest_file::put_text;
 use crate::names::{MANIFEST, is_unfinished_backup};
@@ -22,6 +29,7 @@ use copy_vault::CopyId;
 use manifest::{DatabaseName, Extent, FileSum, Manifest};
 use saved_files::{Folder, PutFault, SavedName};
 use std::alloc::Global;
+use std::io::ErrorKind;
 
 /// Puts the log, the master record and these copies of a database into a second folder, each whole
 /// and synced, or not there, and then a manifest that names them. A copy that is there already stays.
@@ -33,27 +41,21 @@ pub(crate) fn put_beside<O: DatabaseFolder, F: DatabaseFolder>(
     folder: &mut F,
     copies: &[CopyId],
     database: DatabaseName,
-) -> Result<(), OpenFault> {
+) -> Result<(), OpenFault>
+    ensures put { OnOk result (Changes (IsBackup (O.entries from.now) copies.now database.0)
+        (F.entries folder.old) (F.entries folder.new)) }
+    ensures stored { OnOk result (F.is_stored folder.new) }
+    ensures claimed { OnOk result (F.is_claimed folder.new) }
+    ensures rest { Changes (KeepsTheRest (O.entries from.now) copies.now database.0)
+        (F.entries folder.old) (F.entries folder.new) }
+{
     folder.claim_or_wait()?;
     let alloc = teller.alloc;
-    let mut manifest = manifest_beside(teller, folder, database)?;
+    let manifest = manifest_beside(teller, folder, database)?;
     let log = found(alloc, from, SavedName::Log)?;
-    let older = at(alloc, folder, SavedName::Log)?;
-    check_beginning(older, &log)?;
-    for id in copies {
-        check_same(alloc, from, folder, *id)?;
-    }
-    clear(alloc, folder)?;
-    put(alloc, folder, SavedName::Log, &log, &mut manifest)?;
-    for id in copies {
-        put_missing(alloc, from, folder, *id, &mut manifest)?;
-    }
-    let master = found(alloc, from, SavedName::Master)?;
-    put(alloc, folder, SavedName::Master, &master, &mut manifest)?;
-    match put_text(folder, alloc, &manifest) {
-        Ok(()) => Ok(()),
-        Err(why) => Err(OpenFault::Unput(Place::Manifest, why)),
-    }
+    check_all(alloc, from, folder, copies, &log)?;
+    clear(folder)?;
+    fill(alloc, from, folder, copies, &log, manifest)
 }
 
 /// The manifest of a second folder, which has to be of this database, without the lines of files that
@@ -62,7 +64,9 @@ fn manifest_beside<F: DatabaseFolder>(
     teller: &Teller<'_>,
     folder: &F,
     database: DatabaseName,
-) -> Result<Manifest, OpenFault> {
+) -> Result<Manifest, OpenFault>
+    ensures { IfOk result (λ it. it.database ≡ database.0) }
+{
     let alloc = teller.alloc;
     let is_there = folder.has(MANIFEST).map_err(OpenFault::of_folder)?;
     match read_manifest(alloc, folder, is_there)? {
@@ -86,7 +90,10 @@ fn at<F: DatabaseFolder>(
     alloc: Global,
     folder: &F,
     name: SavedName,
-) -> Result<Option<Vec<u8>>, OpenFault> {
+) -> Result<Option<Vec<u8>>, OpenFault>
+    ensures { IfOk result (λ it.
+        Reads it (λ bytes. bytes.items) (F.entries folder.now) (name_of name)) }
+{
     let text = format!(in alloc; "{name}")?;
     read_whole(folder, place_of(&name), text.as_str())
 }
@@ -96,42 +103,96 @@ fn found<F: DatabaseFolder>(
     alloc: Global,
     folder: &F,
     name: SavedName,
-) -> Result<Vec<u8>, OpenFault> {
+) -> Result<Vec<u8>, OpenFault>
+    ensures { IfOk result (λ it. HasBytes (F.entries folder.now) (name_of name) it.items) }
+{
     match at(alloc, folder, name)? {
         Some(bytes) => Ok(bytes),
         None => Err(OpenFault::LogLost(place_of(&name))),
     }
 }
 
-/// Removes what an older backup left unfinished.
-fn clear<F: DatabaseFolder>(alloc: Global, folder: &mut F) -> Result<(), OpenFault>
+/// Removes what an older backup left unfinished. A folder that has such a name stays: no backup
+/// leaves one.
+fn clear<F: DatabaseFolder>(folder: &mut F) -> Result<(), OpenFault>
     requires { F.is_claimed folder.old }
-    ensures { F.is_claimed folder.new }
+    ensures kept { Changes KeepsFinished (F.entries folder.old) (F.entries folder.new) }
+    ensures claimed { F.is_claimed folder.new }
 {
-    let mut unfinished = Vec::new(alloc);
     for name in folder.names().map_err(OpenFault::of_folder)? {
-        if is_unfinished_backup(name.as_str()) {
-            unfinished.push(name)?;
-        }
+        remove_unfinished(folder, name.as_str())?;
     }
-    remove_all(folder, &unfinished)
+    Ok(())
+}
+
+/// Removes the file of this name, if it is one that is not whole.
+fn remove_unfinished<F: DatabaseFolder>(folder: &mut F, name: &str) -> Result<(), OpenFault>
+    requires { F.is_claimed folder.old }
+    ensures kept { Changes KeepsFinished (F.entries folder.old) (F.entries folder.new) }
+    ensures claimed { F.is_claimed folder.new }
+{
+    if is_unfinished_backup(name) {
+        remove_file(folder, name)
+    } else {
+        Ok(())
+    }
+}
+
+/// Removes the file of this name, if it is no folder.
+fn remove_file<F: DatabaseFolder>(folder: &mut F, name: &str) -> Result<(), OpenFault>
+    requires { F.is_claimed folder.old }
+    ensures others { Changes (KeepsOthers name.now)
+        (F.entries folder.old) (F.entries folder.new) }
+    ensures claimed { F.is_claimed folder.new }
+{
+    match folder.remove(name) {
+        Ok(()) => Ok(()),
+        Err(error) if error.kind() == ErrorKind::IsADirectory => Ok(()),
+        Err(error) => Err(OpenFault::of_folder(error)),
+    }
+}
+
+/// Sees that what is there of the log and these copies is of the same database as this log.
+fn check_all<O: DatabaseFolder, F: DatabaseFolder>(
+    alloc: Global,
+    from: &O,
+    folder: &F,
+    copies: &[CopyId],
+    log: &[u8],
+) -> Result<(), OpenFault>
+    ensures { OnOk result
+        (IfSome (F.entries folder.now) (IsOfSame (O.entries from.now) log.now copies.now)) }
+{
+    let older = at(alloc, folder, SavedName::Log)?;
+    check_beginning(older, log)?;
+    for id in copies {
+        check_same(alloc, from, folder, *id)?;
+    }
+    Ok(())
 }
 
 /// Sees that a log is the beginning of this one, if it is there.
-fn check_beginning(older: Option<Vec<u8>>, log: &[u8]) -> Result<(), OpenFault> {
+fn check_beginning(older: Option<Vec<u8>>, log: &[u8]) -> Result<(), OpenFault>
+    ensures begins { OnOk result (IfSome older (λ it. StartsWith log.now it.items)) }
+    ensures other { IfErr result (λ why. (why ≡ fault.OtherDatabase place.Log)
+        × IsSomeAnd older (λ it. ¬ StartsWith log.now it.items)) }
+{
     match older {
         Some(older) if !log.starts_with(&older) => Err(OpenFault::OtherDatabase(Place::Log)),
         _ => Ok(()),
     }
 }
 
-/// Sees that a copy is the same in both folders, if both have it.
+/// Sees that a copy is the same in both folders, if the second one has it.
 fn check_same<O: DatabaseFolder, F: DatabaseFolder>(
     alloc: Global,
     from: &O,
     folder: &F,
     id: CopyId,
-) -> Result<(), OpenFault> {
+) -> Result<(), OpenFault>
+    ensures { OnOk result (IfSome (F.entries folder.now) (λ it.
+        IsCopyOf (O.entries from.now) (name_of (saved.Copy id)) (it (name_of (saved.Copy id))))) }
+{
     let name = SavedName::Copy(id);
     match at(alloc, folder, name)? {
         Some(there) if there != found(alloc, from, name)? => {
@@ -139,6 +200,85 @@ fn check_same<O: DatabaseFolder, F: DatabaseFolder>(
         }
         _ => Ok(()),
     }
+}
+
+/// Puts the files of a backup where what stands is of the same database as this log, and the manifest
+/// behind them.
+fn fill<O: DatabaseFolder, F: DatabaseFolder>(
+    alloc: Global,
+    from: &O,
+    folder: &mut F,
+    copies: &[CopyId],
+    log: &[u8],
+    mut manifest: Manifest,
+) -> Result<(), OpenFault>
+    requires claimed { F.is_claimed folder.old }
+    requires read { HasBytes (O.entries from.now) (name_of saved.Log) log.now }
+    requires same { IfSome (F.entries folder.old)
+        (IsOfSame (O.entries from.now) log.now copies.now) }
+    ensures put { OnOk result (Changes
+        (IsBackup (O.entries from.now) copies.now manifest.database)
+        (F.entries folder.old) (F.entries folder.new)) }
+    ensures stored { OnOk result (F.is_stored folder.new) }
+    ensures last { Changes (PutsManifestLast (O.entries from.now) copies.now manifest.database)
+        (F.entries folder.old) (F.entries folder.new) }
+    ensures others { Changes KeepsOtherFiles (F.entries folder.old) (F.entries folder.new) }
+    ensures claimed { F.is_claimed folder.new }
+{
+    put_files(alloc, from, folder, copies, log, &mut manifest)?;
+    match put_text(folder, alloc, &manifest) {
+        Ok(()) => Ok(()),
+        Err(why) => Err(OpenFault::Unput(Place::Manifest, why)),
+    }
+}
+
+/// Puts the files of a backup, and notes them.
+fn put_files<O: DatabaseFolder, F: DatabaseFolder>(
+    alloc: Global,
+    from: &O,
+    folder: &mut F,
+    copies: &[CopyId],
+    log: &[u8],
+    manifest: &mut Manifest,
+) -> Result<(), OpenFault>
+    requires claimed { F.is_claimed folder.old }
+    requires read { HasBytes (O.entries from.now) (name_of saved.Log) log.now }
+    requires same { IfSome (F.entries folder.old)
+        (IsOfSame (O.entries from.now) log.now copies.now) }
+    ensures put { OnOk result (Changes
+        (AreBackedUp (O.entries from.now) copies.now manifest.new.entries)
+        (F.entries folder.old) (F.entries folder.new)) }
+    ensures database { OnOk result (manifest.new.database ≡ manifest.old.database) }
+    ensures others { Changes AddsFiles (F.entries folder.old) (F.entries folder.new) }
+    ensures claimed { F.is_claimed folder.new }
+{
+    put(alloc, folder, SavedName::Log, log, manifest)?;
+    put_copies(alloc, from, folder, copies, manifest)?;
+    let master = found(alloc, from, SavedName::Master)?;
+    put(alloc, folder, SavedName::Master, &master, manifest)
+}
+
+/// Puts those of these copies that are not there, and notes all of them.
+fn put_copies<O: DatabaseFolder, F: DatabaseFolder>(
+    alloc: Global,
+    from: &O,
+    folder: &mut F,
+    copies: &[CopyId],
+    manifest: &mut Manifest,
+) -> Result<(), OpenFault>
+    requires { F.is_claimed folder.old }
+    ensures put { OnOk result (Changes
+        (FillsCopies (O.entries from.now) manifest.new.entries copies.now)
+        (F.entries folder.old) (F.entries folder.new)) }
+    ensures noted { OnOk result (NotesCopies manifest.old.entries manifest.new.entries) }
+    ensures database { OnOk result (manifest.new.database ≡ manifest.old.database) }
+    ensures others { Changes AddsCopies (F.entries folder.old) (F.entries folder.new) }
+    ensures claimed { F.is_claimed folder.new }
+{
+    for id in copies {
+        put_missing(alloc, from, folder, *id, manifest)?;
+    }
+    Ok(())
 }
 
 /// Puts a copy into the second folder, if it is not there, and notes it.
@@ -150,7 +290,14 @@ fn put_missing<O: DatabaseFolder, F: DatabaseFolder>(
     manifest: &mut Manifest,
 ) -> Result<(), OpenFault>
     requires { F.is_claimed folder.old }
-    ensures { F.is_claimed folder.new }
+    ensures put { OnOk result (Changes
+        (FillsCopy (O.entries from.now) manifest.new.entries (name_of (saved.Copy id)))
+        (F.entries folder.old) (F.entries folder.new)) }
+    ensures noted { OnOk result
+        (NotesOnly (name_of (saved.Copy id)) manifest.old.entries manifest.new.entries) }
+    ensures database { OnOk result (manifest.new.database ≡ manifest.old.database) }
+    ensures others { Changes AddsCopies (F.entries folder.old) (F.entries folder.new) }
+    ensures claimed { F.is_claimed folder.new }
 {
     let name = SavedName::Copy(id);
     match at(alloc, folder, name)? {
@@ -168,12 +315,17 @@ fn put<F: Folder>(
     manifest: &mut Manifest,
 ) -> Result<(), OpenFault>
     requires { F.is_claimed folder.old }
-    ensures put { OnOk result (HasFile (name_of name)
-        (bytes_by (λ old new. Appends old new bytes.now)) (F.entries folder.new)) }
+    ensures put { OnOk result (Changes (Puts (name_of name) (λ it. it ≡ bytes.now))
+        (F.entries folder.old) (F.entries folder.new)) }
     // Just these bytes are named.
     ensures named { OnOk result
         (Names manifest.new.entries (name_of name) (λ it. it ≡ bytes.now)) }
+    ensures noted { OnOk result
+        (NotesOnly (name_of name) manifest.old.entries manifest.new.entries) }
+    ensures database { OnOk result (manifest.new.database ≡ manifest.old.database) }
     ensures stored { OnOk result (F.is_stored folder.new) }
+    ensures others { Changes (KeepsBut (name_of name))
+        (F.entries folder.old) (F.entries folder.new) }
     ensures claimed { F.is_claimed folder.new }
 {
     match place(folder, alloc, name, &mut Bytes { bytes }) {
@@ -191,7 +343,11 @@ fn note(
     bytes: &[u8],
     manifest: &mut Manifest,
 ) -> Result<(), OpenFault>
-    ensures { OnOk result (Names manifest.new.entries (name_of name) (λ it. it ≡ bytes.now)) }
+    ensures named { OnOk result
+        (Names manifest.new.entries (name_of name) (λ it. it ≡ bytes.now)) }
+    ensures noted { OnOk result
+        (NotesOnly (name_of name) manifest.old.entries manifest.new.entries) }
+    ensures database { OnOk result (manifest.new.database ≡ manifest.old.database) }
 {
     let text = format!(in alloc; "{name}")?;
     let extent = match name {

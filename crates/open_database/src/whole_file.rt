@@ -1,8 +1,9 @@
 //! Files that are read by their names, and bytes as those of another file.
 
-ghost use Rattle.std.specs.Prelude.{◌≡◌};
+ghost use Rattle.std.specs.Prelude.{◌≡◌, IfOk};
 ghost use Rattle.std.specs.Io.KnownBytes.{Appends};
 ghost use Rattle.saved_files.specs.FileFault.{Leaves};
+ghost use Rattle.open_database.specs.DatabaseFolder.{Reads};
 
 use crate::database_folder::{DatabaseFolder, Standing};
 use crate::fault::OpenFault;
@@ -18,7 +19,10 @@ pub(crate) fn read_whole<F: DatabaseFolder>(
     folder: &F,
     place: Place,
     name: &str,
-) -> Result<Option<Vec<u8>>, OpenFault> {
+) -> Result<Option<Vec<u8>>, OpenFault>
+    ensures { IfOk result (λ it.
+        Reads it (λ bytes. bytes.items) (F.entries folder.now) name.now) }
+{
     match folder.whole(name) {
         Ok(Standing::File(bytes)) => Ok(Some(bytes)),
         Ok(Standing::NoFile) => Err(OpenFault::NoFile(place)),

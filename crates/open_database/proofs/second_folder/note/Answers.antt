@@ -1,10 +1,11 @@
-use Rattle.std.proofs.Common.{◌≡◌, List, ℕ, refl, subst, ◌∙◌, Some}
+use Rattle.std.proofs.Common.{◌≡◌, ◌∙◌, List, ℕ, refl, subst, sym, Some}
+use Rattle.std.specs.Prelude.{◌≢◌}
 use Rattle.manifest.specs.Entries.{file_of}
 use Rattle.manifest.specs.declared.entry.FileSum.{FileSum}
 use Rattle.open_database.proofs.second_folder.note.Goals as goal
 
-pub returns-in-Ok : goal.returns-in-Ok
-returns-in-Ok c =
+pub returns-in-Ok-clause-named : goal.returns-in-Ok-clause-named
+returns-in-Ok-clause-named c =
     let file : FileSum = record {
       extent = c.match-name.extent;
       bytes = c.sum_of-bytes.result.bytes;
@@ -18,3 +19,7 @@ returns-in-Ok c =
       right = refl;
       sum = c.sum_of-bytes.ensures;
     }
+
+pub returns-in-Ok-clause-noted : goal.returns-in-Ok-clause-noted
+returns-in-Ok-clause-noted c n apart =
+    c.in-Ok.ensures.others n (λ same. apart (same ∙ c.as_str.ensures.value ∙ c.in_ok-text.ensures.ok))

@@ -1,0 +1,513 @@
+-- The files of a backup in a second folder.
+use Rattle.std.proofs.Common.{◌≡◌, ◌∙◌, ℕ, ◌+◌, ◌<◌, List, [], ap, get_or, inl, inr, length, refl, subst, sym, take}
+use Rattle.std.specs.Prelude.{◌≢◌, ◌⊎◌, codes, Err, IfSome, None, Ok, OnOk, Option, Result, Some}
+use Rattle.std.specs.Io.{StartsWith}
+use Rattle.std.specs.List.{All}
+use Rattle.std.proofs.lemmas.List.Elements.{All-more, All-nil, All-weaker}
+use Rattle.manifest.specs.Entries.{Listed, Noted, file_of}
+use Rattle.manifest.specs.Text.{manifest_text}
+use Rattle.saved_files.specs.Folder.{Changes, Entries, FolderEntry, IsSame, KeepsBeside, KeepsOthers, Puts, PutsOrKeeps}
+use Rattle.saved_files.specs.Folder.{absent, stored, unsynced}
+use Rattle.saved_files.specs.Saved.{name_of}
+use Rattle.saved_files.specs.declared.saved_name.SavedName.TheVariants as saved
+use Rattle.open_database.specs.Backups.{AddsCopies, AddsFiles, AreBackedUp, FillsCopies, FillsCopy, IsBackedUp, IsBackup}
+use Rattle.open_database.specs.Backups.{IsBeginningOf, IsCopyOf, IsFilled, IsOfSame, IsUnfinished, KeepsAnother, KeepsBut}
+use Rattle.open_database.specs.Backups.{KeepsFinished, KeepsOtherFiles, KeepsTheRest, NotesCopies, NotesOnly}
+use Rattle.open_database.specs.Backups.{PutsManifestLast, UnlessUnsynced}
+use Rattle.open_database.specs.DatabaseFolder.{HasBytes, Reads, ReadsIn}
+use Rattle.open_database.specs.Kept.{Names}
+use Rattle.open_database.proofs.SecondNames.{beside_unfinished, by_test, copy_apart, copy_finished, copy_starts}
+use Rattle.open_database.proofs.SecondNames.{log_finished, log_manifest, log_master, log_no_copy, manifest_finished}
+use Rattle.open_database.proofs.SecondNames.{manifest_no_copy, master_finished, master_manifest, master_no_copy}
+
+-- ---- changes of a folder
+
+-- a change that implies another one
+pub so : {P Q : Entries → Entries → Type 0} (a b : Option Entries) → ((old new : Entries) → P old new → Q old new)
+    → Changes P a b → Changes Q a b
+so None None imply p = tt
+so None (Some new) imply p = absurd p
+so (Some old) None imply p = absurd p
+so (Some old) (Some new) imply p = imply old new p
+
+-- two changes, one after the other
+pub then : {P Q R : Entries → Entries → Type 0} (a b c : Option Entries)
+    → ((old mid new : Entries) → P old mid → Q mid new → R old new) → Changes P a b → Changes Q b c → Changes R a c
+then None None None both p q = tt
+then None None (Some new) both p q = absurd q
+then None (Some mid) c both p q = absurd p
+then (Some old) None c both p q = absurd p
+then (Some old) (Some mid) None both p q = absurd q
+then (Some old) (Some mid) (Some new) both p q = both old mid new p q
+
+-- two things that hold of one change
+pub both : {P Q R : Entries → Entries → Type 0} (a b : Option Entries)
+    → ((old new : Entries) → P old new → Q old new → R old new) → Changes P a b → Changes Q a b → Changes R a b
+both None None all p q = tt
+both None (Some new) all p q = absurd p
+both (Some old) None all p q = absurd p
+both (Some old) (Some new) all p q = all old new p q
+
+-- what is known of the folder before
+pub given : {P : Entries → Type 0} {Q R : Entries → Entries → Type 0} (a b : Option Entries)
+    → ((old new : Entries) → P old → Q old new → R old new) → IfSome a P → Changes Q a b → Changes R a b
+given None None all p q = tt
+given None (Some new) all p q = absurd q
+given (Some old) None all p q = absurd q
+given (Some old) (Some new) all p q = all old new p q
+
+-- and of it after
+pub known_after : {P Q : Entries → Type 0} {R : Entries → Entries → Type 0} (a b : Option Entries)
+    → ((old new : Entries) → P old → R old new → Q new) → IfSome a P → Changes R a b → IfSome b Q
+known_after a None all p r = tt
+known_after None (Some new) all p r = absurd r
+known_after (Some old) (Some new) all p r = all old new p r
+
+-- nothing changed
+pub same_here : (a : Option Entries) → Changes IsSame a a
+same_here None = tt
+same_here (Some old) = λ n. refl
+
+pub same_then : (a b c : Option Entries) → Changes IsSame a b → Changes IsSame b c → Changes IsSame a c
+same_then a b c = then a b c (λ old mid new p q n. q n ∙ p n)
+
+-- what follows where a call ended well
+pub on_ok : {T E A B : Type 0} (r : Result T E) → (A → B) → OnOk r A → OnOk r B
+on_ok (Ok x) imply a = imply a
+on_ok (Err why) imply a = tt
+
+pub on_ok_all : {T E A B C D : Type 0} (r : Result T E) → (A → B → C → D) → OnOk r A → OnOk r B → OnOk r C → OnOk r D
+on_ok_all (Ok x) imply a b c = imply a b c
+on_ok_all (Err why) imply a b c = tt
+
+-- ---- names that keep what stood under them
+
+pub kept_beside : (name : List ℕ) (old new : Entries) → KeepsBeside name old new → KeepsBut name old new
+kept_beside name old new kept n apart whole = elim (kept n apart) [
+  | inl same ↦ same
+  | inr beside ↦ absurd (whole (beside_unfinished name n beside.1))
+]
+
+pub kept_put : (name : List ℕ) (fits : List ℕ → Type 0) (a b : Option Entries) → Changes (Puts name fits) a b
+    → Changes (KeepsBut name) a b
+kept_put name fits a b = so a b (λ old new put n apart whole. put.others n apart)
+
+pub kept_left : (name : List ℕ) (fits : List ℕ → Type 0) (a b : Option Entries) → Changes (PutsOrKeeps name fits) a b
+    → Changes (KeepsBut name) a b
+kept_left name fits a b = so a b (λ old new left. kept_beside name old new left.others)
+
+-- a file that is not whole is removed
+pub removed : (name : List ℕ) (a b : Option Entries) → IsUnfinished name → Changes (KeepsOthers name) a b
+    → Changes KeepsFinished a b
+removed name a b unfinished = so a b (λ old new kept n whole.
+    kept n (λ same. whole (subst IsUnfinished (sym same) unfinished)))
+
+pub finished_more : (a b c : Option Entries) → Changes KeepsFinished a b → Changes KeepsFinished b c
+    → Changes KeepsFinished a c
+finished_more a b c = then a b c (λ old mid new p q n whole. q n whole ∙ p n whole)
+
+-- nothing is added
+pub adds_none : (a b : Option Entries) → Changes IsSame a b → Changes AddsCopies a b
+adds_none a b = so a b (λ old new same n whole. inl (same n))
+
+pub adds_more : (a b c : Option Entries) → Changes AddsCopies a b → Changes AddsCopies b c → Changes AddsCopies a c
+adds_more a b c = then a b c (λ old mid new p q n whole. elim (p n whole) [
+  | inr none ↦ inr none
+  | inl same ↦ elim (q n whole) [
+    | inl kept ↦ inl (kept ∙ same)
+    | inr none ↦ inr (sym same ∙ none.0, none.1)
+  ]
+])
+
+-- a copy is put where nothing stood
+pub adds_one : (id : ℕ) (a b : Option Entries) → IfSome a (λ it. it (name_of (saved.Copy id)) ≡ absent)
+    → Changes (KeepsBut (name_of (saved.Copy id))) a b → Changes AddsCopies a b
+adds_one id a b = given a b (λ old new none kept n whole. elim (by_test n (name_of (saved.Copy id))) [
+  | inl same ↦ inr (ap old same ∙ none, subst (λ m. StartsWith m (codes "copy-")) (sym same) (copy_starts id))
+  | inr apart ↦ inl (kept n apart whole)
+])
+
+files_more : (old mid new : Entries) → AddsFiles old mid → AddsFiles mid new → AddsFiles old new
+files_more old mid new p q n log master whole = elim (p n log master whole) [
+  | inr none ↦ inr none
+  | inl same ↦ elim (q n log master whole) [
+    | inl kept ↦ inl (kept ∙ same)
+    | inr none ↦ inr (sym same ∙ none.0, none.1)
+  ]
+]
+
+pub adds_then : (a b c : Option Entries) → Changes AddsFiles a b → Changes AddsFiles b c → Changes AddsFiles a c
+adds_then a b c = then a b c files_more
+
+pub adds_log : (a b : Option Entries) → Changes (KeepsBut (name_of saved.Log)) a b → Changes AddsFiles a b
+adds_log a b = so a b (λ old new kept n log master whole. inl (kept n log whole))
+
+pub adds_master : (a b : Option Entries) → Changes (KeepsBut (name_of saved.Master)) a b → Changes AddsFiles a b
+adds_master a b = so a b (λ old new kept n log master whole. inl (kept n master whole))
+
+pub adds_copies : (a b : Option Entries) → Changes AddsCopies a b → Changes AddsFiles a b
+adds_copies a b = so a b (λ old new adds n log master whole. adds n whole)
+
+keeps_manifest : (old new : Entries) → AddsFiles old new → new (codes "manifest") ≡ old (codes "manifest")
+keeps_manifest old new adds = elim (adds (codes "manifest") (λ same. log_manifest (sym same))
+    (λ same. master_manifest (sym same)) manifest_finished) [
+  | inl same ↦ same
+  | inr none ↦ absurd (manifest_no_copy none.1)
+]
+
+-- ---- what a manifest names
+
+pub still_named : (old new : List Noted) (name : List ℕ) (fits : List ℕ → Type 0) → file_of name new ≡ file_of name old
+    → Names old name fits → Names new name fits
+still_named old new name fits same it = record {
+  file = it.file;
+  there = same ∙ it.there;
+  bytes = it.bytes;
+  right = it.right;
+  sum = it.sum;
+}
+
+pub notes_more : (a b c : List Noted) → NotesCopies a b → NotesCopies b c → NotesCopies a c
+notes_more a b c p q n away = q n away ∙ p n away
+
+pub notes_copy : (id : ℕ) (a b : List Noted) → NotesOnly (name_of (saved.Copy id)) a b → NotesCopies a b
+notes_copy id a b only n away = only n (λ same. copy_apart n away id (sym same))
+
+-- a file that stands there still does
+pub still_there : (first : Option Entries) (l m : List Noted) (name : List ℕ) (mid new : Entries)
+    → new name ≡ mid name → file_of name m ≡ file_of name l → IsBackedUp first l name mid → IsBackedUp first m name new
+still_there first l m name mid new same noted it = record {
+  bytes = it.bytes;
+  read = it.read;
+  there = same ∙ it.there;
+  named = still_named l m name (λ b. b ≡ it.bytes) noted it.named;
+}
+
+-- ---- copies
+
+still_filled : (first : Option Entries) (l m : List Noted) (name : List ℕ) (mid new : Entries) → new name ≡ mid name
+    → file_of name m ≡ file_of name l → (e : FolderEntry) → IsFilled first l name e mid → IsFilled first m name e new
+still_filled first l m name mid new same noted absent it = still_there first l m name mid new same noted it
+still_filled first l m name mid new same noted unsynced it = same ∙ it
+still_filled first l m name mid new same noted (stored bytes) it =
+    (same ∙ it.0, still_named l m name (λ b. b ≡ bytes) noted it.1)
+
+-- a copy that is there already is not put once more
+filled_twice : (first : Option Entries) (l m : List Noted) (name : List ℕ) (mid new : Entries)
+    → IsFilled first m name (mid name) new → (e : FolderEntry) → IsFilled first l name e mid → IsFilled first m name e new
+filled_twice first l m name mid new fills absent it =
+    let then_there = subst (λ e. IsFilled first m name e new) it.there fills in
+    record { bytes = it.bytes; read = it.read; there = then_there.0; named = then_there.1 }
+filled_twice first l m name mid new fills unsynced it = subst (λ e. IsFilled first m name e new) it fills
+filled_twice first l m name mid new fills (stored bytes) it = subst (λ e. IsFilled first m name e new) it.0 fills
+
+-- the copies before one are filled, and each of the others is as it was, or filled too
+pub record Filling (first : Option Entries) (l : List Noted) (ids : List ℕ) (old new : Entries) : Type 0 where
+  pub any : (id : ℕ) → (new (name_of (saved.Copy id)) ≡ old (name_of (saved.Copy id)))
+      ⊎ IsFilled first l (name_of (saved.Copy id)) (old (name_of (saved.Copy id))) new
+  pub done : All (λ id. IsFilled first l (name_of (saved.Copy id)) (old (name_of (saved.Copy id))) new) ids
+
+pub filling_none : (first : Option Entries) (l : List Noted) (a : Option Entries) → Changes (Filling first l []) a a
+filling_none first l None = tt
+filling_none first l (Some old) = record {
+  any = λ id. inl refl;
+  done = All-nil (λ id. IsFilled first l (name_of (saved.Copy id)) (old (name_of (saved.Copy id))) old);
+}
+
+filled_more : (first : Option Entries) (l m : List Noted) (ids : List ℕ) (i id : ℕ) → i < length ids
+    → id ≡ get_or ids i id → NotesOnly (name_of (saved.Copy id)) l m → (old mid new : Entries)
+    → Filling first l (take i ids) old mid → FillsCopy first m (name_of (saved.Copy id)) mid new
+    → Filling first m (take (i + 1) ids) old new
+filled_more first l m ids i id lt is only old mid new far fills =
+    let this = name_of (saved.Copy id) in
+    let of : ℕ → List ℕ = λ k. name_of (saved.Copy k) in
+    let same_name : (n : List ℕ) → n ≡ this → IsFilled first m n (mid n) new = λ n same.
+      subst (λ x. IsFilled first m x (mid x) new) (sym same) fills.filled in
+    let again : (k : ℕ) → IsFilled first l (of k) (old (of k)) mid → IsFilled first m (of k) (old (of k)) new = λ k it.
+      elim (by_test (of k) this) [
+        | inl same ↦ filled_twice first l m (of k) mid new (same_name (of k) same) (old (of k)) it
+        | inr apart ↦ still_filled first l m (of k) mid new (fills.others (of k) apart) (only (of k) apart) (old (of k)) it
+      ] in
+    let here : (k : ℕ) → mid (of k) ≡ old (of k) → of k ≡ this → IsFilled first m (of k) (old (of k)) new = λ k same one.
+      subst (λ e. IsFilled first m (of k) e new) same (same_name (of k) one) in
+    let now : IsFilled first m this (old this) new = elim (far.any id) [
+      | inl same ↦ here id same refl
+      | inr it ↦ again id it
+    ] in
+    record {
+      any = λ k. elim (far.any k) [
+        | inr it ↦ inr (again k it)
+        | inl same ↦ elim (by_test (of k) this) [
+          | inl one ↦ inr (here k same one)
+          | inr apart ↦ inl (fills.others (of k) apart ∙ same)
+        ]
+      ];
+      done = All-more (λ k. IsFilled first m (of k) (old (of k)) new) ids i id lt
+          (All-weaker (λ k. IsFilled first l (of k) (old (of k)) mid)
+          (λ k. IsFilled first m (of k) (old (of k)) new) again (take i ids) far.done)
+          (subst (λ k. IsFilled first m (of k) (old (of k)) new) is now);
+    }
+
+pub filling_more : (first : Option Entries) (l m : List Noted) (ids : List ℕ) (i id : ℕ) → i < length ids
+    → id ≡ get_or ids i id → NotesOnly (name_of (saved.Copy id)) l m → (a b c : Option Entries)
+    → Changes (Filling first l (take i ids)) a b → Changes (FillsCopy first m (name_of (saved.Copy id))) b c
+    → Changes (Filling first m (take (i + 1) ids)) a c
+filling_more first l m ids i id lt is only a b c = then a b c (filled_more first l m ids i id lt is only)
+
+pub filling_all : (first : Option Entries) (l : List Noted) (ids : List ℕ) (a b : Option Entries)
+    → Changes (Filling first l ids) a b → Changes AddsCopies a b → Changes (FillsCopies first l ids) a b
+filling_all first l ids a b = both a b (λ old new far adds. record { filled = far.done; others = adds })
+
+-- a copy of the same database is the first folder's
+is_backed : (first : Option Entries) (l : List Noted) (name : List ℕ) (new : Entries) (e : FolderEntry)
+    → IsCopyOf first name e → IsFilled first l name e new → UnlessUnsynced e (IsBackedUp first l name new)
+is_backed first l name new absent same it = it
+is_backed first l name new unsynced same it = tt
+is_backed first l name new (stored bytes) same it =
+    record { bytes = bytes; read = same; there = it.0; named = it.1 }
+
+unless : (P Q : Type 0) → (P → Q) → (e : FolderEntry) → UnlessUnsynced e P → UnlessUnsynced e Q
+unless P Q imply absent it = imply it
+unless P Q imply unsynced it = tt
+unless P Q imply (stored bytes) it = imply it
+
+-- ---- all but the manifest
+
+-- the log, the copies and the master record, one after the other
+all_there : (first : Option Entries) (log ids : List ℕ) (master : List ℕ) (l m n : List Noted)
+    → HasBytes first (name_of saved.Log) log → HasBytes first (name_of saved.Master) master
+    → Names l (name_of saved.Log) (λ it. it ≡ log) → NotesCopies l m → NotesOnly (name_of saved.Master) m n
+    → Names n (name_of saved.Master) (λ it. it ≡ master) → (a b c end : Entries) → IsOfSame first log ids a
+    → Puts (name_of saved.Log) (λ it. it ≡ log) a b → FillsCopies first m ids b c
+    → Puts (name_of saved.Master) (λ it. it ≡ master) c end → AreBackedUp first ids n a end
+all_there first log ids master l m n read read_master named copies only named_master a b c end same put fills last =
+    let kept : c (name_of saved.Log) ≡ b (name_of saved.Log) =
+      elim (fills.others (name_of saved.Log) log_finished) [
+        | inl is ↦ is
+        | inr none ↦ absurd (log_no_copy none.1)
+      ] in
+    let noted : file_of (name_of saved.Log) n ≡ file_of (name_of saved.Log) l =
+      only (name_of saved.Log) log_master ∙ copies (name_of saved.Log) log_no_copy in
+    let of : ℕ → List ℕ = λ k. name_of (saved.Copy k) in
+    record {
+      log = record {
+        bytes = log;
+        read = read;
+        there = last.others (name_of saved.Log) log_master ∙ kept ∙ put.put ∙ ap stored put.right;
+        named = still_named l n (name_of saved.Log) (λ b. b ≡ log) noted named;
+      };
+      goes_on = same.begins;
+      copies = λ i x lt.
+        let id = get_or ids i x in
+        let apart = copy_apart (name_of saved.Log) log_no_copy id in
+        let away = copy_apart (name_of saved.Master) master_no_copy id in
+        is_backed first n (of id) end (a (of id)) (same.same i x lt)
+        (still_filled first m n (of id) c end (last.others (of id) away) (only (of id) away) (a (of id))
+        (subst (λ e. IsFilled first m (of id) e c) (put.others (of id) apart) (fills.filled i x lt)));
+      master = record {
+        bytes = master;
+        read = read_master;
+        there = last.put ∙ ap stored last.right;
+        named = named_master;
+      };
+    }
+
+pub all_put : (first : Option Entries) (log ids master : List ℕ) (l m n : List Noted)
+    → HasBytes first (name_of saved.Log) log → HasBytes first (name_of saved.Master) master
+    → Names l (name_of saved.Log) (λ it. it ≡ log) → NotesCopies l m → NotesOnly (name_of saved.Master) m n
+    → Names n (name_of saved.Master) (λ it. it ≡ master) → (a b c end : Option Entries)
+    → IfSome a (IsOfSame first log ids) → Changes (Puts (name_of saved.Log) (λ it. it ≡ log)) a b
+    → Changes (FillsCopies first m ids) b c → Changes (Puts (name_of saved.Master) (λ it. it ≡ master)) c end
+    → Changes (AreBackedUp first ids n) a end
+all_put first log ids master l m n read read_master named copies only named_master a b c end same put fills last =
+    let Far : Entries → Entries → Type 0 = λ old mid. (new : Entries)
+      → Puts (name_of saved.Master) (λ it. it ≡ master) mid new → IsOfSame first log ids old
+      → AreBackedUp first ids n old new in
+    let End : Entries → Entries → Type 0 = λ old new. IsOfSame first log ids old → AreBackedUp first ids n old new in
+    given {Q = End} a end (λ old new is it. it is) same
+    (then {P = Far} a c end (λ old mid new far p. far new p)
+    (then {R = Far} a b c (λ old mid new p q after r is. all_there first log ids master l m n read read_master named copies only
+    named_master old mid new after is p q r) put fills) last)
+
+-- ---- the manifest, behind all else
+
+all_kept : (first : Option Entries) (ids : List ℕ) (l : List Noted) (old mid new : Entries)
+    → KeepsBut (codes "manifest") mid new → AreBackedUp first ids l old mid → AreBackedUp first ids l old new
+unfolding still_there
+all_kept first ids l old mid new kept it =
+    let of : ℕ → List ℕ = λ k. name_of (saved.Copy k) in
+    let stays : (name : List ℕ) → name ≢ codes "manifest" → ¬ IsUnfinished name → IsBackedUp first l name mid
+        → IsBackedUp first l name new = λ name apart whole there.
+      still_there first l l name mid new (kept name apart whole) refl there in
+    record {
+      log = stays (name_of saved.Log) log_manifest log_finished it.log;
+      goes_on = it.goes_on;
+      copies = λ i x lt. let id = get_or ids i x in
+        unless (IsBackedUp first l (of id) mid) (IsBackedUp first l (of id) new)
+        (stays (of id) (copy_apart (codes "manifest") manifest_no_copy id) (copy_finished id)) (old (of id))
+        (it.copies i x lt);
+      master = stays (name_of saved.Master) master_manifest master_finished it.master;
+    }
+
+abbrev pub IsTextOf : Listed → List ℕ → Type 0
+IsTextOf listed text = text ≡ manifest_text listed
+
+pub is_backup : (first : Option Entries) (ids database : List ℕ) (listed : Listed) (a b c : Option Entries)
+    → listed.database ≡ database → Changes (AreBackedUp first ids listed.entries) a b
+    → Changes (Puts (codes "manifest") (IsTextOf listed)) b c → Changes (IsBackup first ids database) a c
+is_backup first ids database listed a b c is = then a b c (λ old mid new files put. record {
+  manifest = listed;
+  of_this = is;
+  files = all_kept first ids listed.entries old mid new (λ n apart whole. put.others n apart) files;
+  placed = put.put ∙ ap stored put.right;
+})
+
+-- it is put, or it is not
+pub last_left : (first : Option Entries) (ids database : List ℕ) (listed : Listed) (a b c : Option Entries)
+    → listed.database ≡ database → Changes (AreBackedUp first ids listed.entries) a b → Changes AddsFiles a b
+    → Changes (PutsOrKeeps (codes "manifest") (IsTextOf listed)) b c → Changes (PutsManifestLast first ids database) a c
+last_left first ids database listed a b c is files adds left =
+    let Far : Entries → Entries → Type 0 = λ old mid. (new : Entries)
+      → PutsOrKeeps (codes "manifest") (IsTextOf listed) mid new → PutsManifestLast first ids database old new in
+    then {P = Far} a b c (λ old mid new far after. far new after)
+    (both {R = Far} a b (λ old mid all added new it. elim it.either [
+      | inl whole ↦ inr (record {
+        manifest = listed;
+        of_this = is;
+        files = all_kept first ids listed.entries old mid new
+            (kept_beside (codes "manifest") mid new it.others) all;
+        placed = whole.2 ∙ ap stored whole.1;
+      })
+      | inr same ↦ inl (same ∙ keeps_manifest old mid added)
+    ]) files adds) left
+
+pub last_put : (first : Option Entries) (ids database : List ℕ) (a b : Option Entries)
+    → Changes (IsBackup first ids database) a b → Changes (PutsManifestLast first ids database) a b
+last_put first ids database a b = so a b (λ old new it. inr it)
+
+pub last_none : (first : Option Entries) (ids database : List ℕ) (a b : Option Entries)
+    → Changes AddsFiles a b → Changes (PutsManifestLast first ids database) a b
+last_none first ids database a b = so a b (λ old new adds. inl (keeps_manifest old new adds))
+
+pub others_kept : (a b : Option Entries) → Changes AddsFiles a b → Changes KeepsOtherFiles a b
+others_kept a b = so a b (λ old new adds n log master manifest whole some. elim (adds n log master whole) [
+  | inl same ↦ same
+  | inr none ↦ absurd (some none.0)
+])
+
+pub others_behind : (a b c : Option Entries) → Changes AddsFiles a b → Changes (KeepsBut (codes "manifest")) b c
+    → Changes KeepsOtherFiles a c
+others_behind a b c = then a b c (λ old mid new adds kept n log master manifest whole some.
+    elim (adds n log master whole) [
+      | inl same ↦ kept n manifest whole ∙ same
+      | inr none ↦ absurd (some none.0)
+    ])
+
+-- ---- from the claim to the end
+
+same_some : (a b : List ℕ) → Some a ≡ Some b → a ≡ b
+same_some a b same = cc
+
+begun : {V : Type 0} (items : V → List ℕ) (log : List ℕ) (older : Option V) (there : FolderEntry)
+    → ReadsIn older items there → IfSome older (λ it. StartsWith log (items it)) → IsBeginningOf log there
+begun items log None there read begins = subst (IsBeginningOf log) (sym read) tt
+begun items log (Some it) absent read begins = tt
+begun items log (Some it) unsynced read begins = tt
+begun items log (Some it) (stored all) read begins = subst (StartsWith log) (same_some (items it) all read) begins
+
+-- what was read of a log is a beginning of this one, and each copy is the same
+pub of_same_read : {V : Type 0} (items : V → List ℕ) (first : Option Entries) (log ids : List ℕ) (older : Option V)
+    (e : Option Entries) → Reads older items e (name_of saved.Log) → IfSome older (λ it. StartsWith log (items it))
+    → IfSome e (λ it. All (λ id. IsCopyOf first (name_of (saved.Copy id)) (it (name_of (saved.Copy id)))) ids)
+    → IfSome e (IsOfSame first log ids)
+of_same_read items first log ids older None read begins same = tt
+of_same_read items first log ids older (Some it) read begins same = record {
+  begins = begun items log older (it (name_of saved.Log)) read begins;
+  same = same;
+}
+
+still_same : (first : Option Entries) (log ids : List ℕ) (old new : Entries) → KeepsFinished old new
+    → IsOfSame first log ids old → IsOfSame first log ids new
+still_same first log ids old new kept it = record {
+  begins = subst (IsBeginningOf log) (sym (kept (name_of saved.Log) log_finished)) it.begins;
+  same = λ i x lt. let name = name_of (saved.Copy (get_or ids i x)) in
+    subst (IsCopyOf first name) (sym (kept name (copy_finished (get_or ids i x)))) (it.same i x lt);
+}
+
+pub of_same_cleared : (first : Option Entries) (log ids : List ℕ) (a b : Option Entries)
+    → IfSome a (IsOfSame first log ids) → Changes KeepsFinished a b → IfSome b (IsOfSame first log ids)
+of_same_cleared first log ids a b =
+    known_after a b (λ old new it kept. still_same first log ids old new kept it)
+
+-- a claim, and what is unfinished is removed
+pub cleared : (a b c : Option Entries) → Changes IsSame a b → Changes KeepsFinished b c → Changes KeepsFinished a c
+cleared a b c = then a b c (λ old mid new same kept n whole. kept n whole ∙ same n)
+
+backup_since : (first : Option Entries) (ids database : List ℕ) (old mid new : Entries) → KeepsFinished old mid
+    → IsBackup first ids database mid new → IsBackup first ids database old new
+backup_since first ids database old mid new kept it =
+    let of : ℕ → List ℕ = λ k. name_of (saved.Copy k) in
+    record {
+      manifest = it.manifest;
+      of_this = it.of_this;
+      files = record {
+        log = it.files.log;
+        goes_on = subst (IsBeginningOf it.files.log.bytes) (kept (name_of saved.Log) log_finished) it.files.goes_on;
+        copies = λ i x lt. let id = get_or ids i x in
+          subst (λ e. UnlessUnsynced e (IsBackedUp first it.manifest.entries (of id) new))
+          (kept (of id) (copy_finished id)) (it.files.copies i x lt);
+        master = it.files.master;
+      };
+      placed = it.placed;
+    }
+
+pub backup_cleared : (first : Option Entries) (ids database : List ℕ) (a b c : Option Entries)
+    → Changes KeepsFinished a b → Changes (IsBackup first ids database) b c → Changes (IsBackup first ids database) a c
+backup_cleared first ids database a b c = then a b c (λ old mid new kept it.
+    backup_since first ids database old mid new kept it)
+
+-- nothing was changed
+pub rest_same : (first : Option Entries) (ids database : List ℕ) (a b : Option Entries) → Changes IsSame a b
+    → Changes (KeepsTheRest first ids database) a b
+rest_same first ids database a b = so a b (λ old new same. record {
+  another = inl same;
+  last = inl (same (codes "manifest"));
+  others = λ n log master manifest whole some. same n;
+})
+
+-- what is of the same database, where only what is unfinished is removed
+abbrev SameCleared : Option Entries → List ℕ → List ℕ → Entries → Entries → Type 0
+SameCleared first log ids old new = IsOfSame first log ids old × KeepsFinished old new
+
+-- only what is unfinished was removed, from what is of the same database
+pub rest_cleared : (first : Option Entries) (log ids database : List ℕ) (a b c : Option Entries)
+    → HasBytes first (name_of saved.Log) log → Changes IsSame a b → IfSome b (IsOfSame first log ids)
+    → Changes KeepsFinished b c → Changes (KeepsTheRest first ids database) a c
+rest_cleared first log ids database a b c read same known kept =
+    then {Q = SameCleared first log ids} a b c (λ old mid new is far. record {
+      another = inr (log, read, still_same first log ids mid old (λ n whole. sym (is n)) far.0);
+      last = inl (far.1 (codes "manifest") manifest_finished ∙ is (codes "manifest"));
+      others = λ n log master manifest whole some. far.1 n whole ∙ is n;
+    }) same (given b c (λ mid new it far. (it, far)) known kept)
+
+-- and the files were put
+pub rest_filled : (first : Option Entries) (log ids database : List ℕ) (a b c d : Option Entries)
+    → HasBytes first (name_of saved.Log) log → Changes IsSame a b → IfSome b (IsOfSame first log ids)
+    → Changes KeepsFinished b c → Changes (PutsManifestLast first ids database) c d → Changes KeepsOtherFiles c d
+    → Changes (KeepsTheRest first ids database) a d
+rest_filled first log ids database a b c d read same known kept last others =
+    then {P = SameCleared first log ids} {Q = λ mid new. PutsManifestLast first ids database mid new × KeepsOtherFiles mid new}
+    a c d (λ old mid new far after. record {
+      another = inr (log, read, far.0);
+      last = elim after.0 [
+        | inl stays ↦ inl (stays ∙ far.1 (codes "manifest") manifest_finished)
+        | inr it ↦ inr (backup_since first ids database old mid new far.1 it)
+      ];
+      others = λ n log master manifest whole some.
+        let before = far.1 n whole in
+        after.1 n log master manifest whole (λ none. some (sym before ∙ none)) ∙ before;
+    })
+    (then {Q = SameCleared first log ids} a b c (λ old mid new is far.
+    (still_same first log ids mid old (λ n whole. sym (is n)) far.0, λ n whole. far.1 n whole ∙ is n))
+    same (given b c (λ mid new it far. (it, far)) known kept))
+    (both c d (λ mid new p q. (p, q)) last others)

@@ -1,0 +1,20 @@
+use Rattle.std.proofs.Common.{List, ℕ, subst, sym}
+use Rattle.saved_files.specs.Saved.{name_of}
+use Rattle.saved_files.specs.declared.saved_name.SavedName.TheVariants as saved
+use Rattle.open_database.specs.DatabaseFolder.{HasBytes}
+use Rattle.open_database.proofs.SecondFolders.{all_put, on_ok_all}
+use Rattle.open_database.proofs.second_folder.put_files.Goals as goal
+
+pub returns-clause-put : goal.returns-clause-put
+returns-clause-put g c =
+    let first = g.O.Folder.entries c.args.from.now in
+    let entries = g.F.Folder.entries in
+    let master = c.deref.result.now in
+    let read : HasBytes first (name_of saved.Master) master =
+      subst (HasBytes first (name_of saved.Master)) (sym c.deref.ensures.value) c.in_ok-master.ensures in
+    on_ok_all c.put-2.result (λ put noted named.
+    all_put first c.args.log.now c.args.copies.now master c.put.new.manifest.entries
+    c.put_copies.new.manifest.entries c.put-2.new.manifest.entries c.requires.read read c.in_ok-put.ensures.named
+    c.in_ok-put_copies.ensures.noted noted named (entries c.args.folder.now) (entries c.put.new.folder)
+    (entries c.put_copies.new.folder) (entries c.put-2.new.folder) c.requires.same c.in_ok-put.ensures.put
+    c.in_ok-put_copies.ensures.put put) c.put-2.ensures.put c.put-2.ensures.noted c.put-2.ensures.named
