@@ -1,3 +1,4 @@
+mod Chains
 mod CopyCalls
 mod CutLives
 mod Forgotten

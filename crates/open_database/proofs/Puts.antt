@@ -58,8 +58,8 @@ pub was_kept : (bytes : List ℕ) (a b c : Option Entries) → IsKept a bytes b 
     → WasKept bytes c
 was_kept bytes a b None kept removed = tt
 was_kept bytes a None (Some new) kept removed = absurd removed
-was_kept bytes None (Some mid) (Some new) (name, apart, put) removed = absurd put
-was_kept bytes (Some old) (Some mid) (Some new) (name, apart, put) removed =
+was_kept bytes None (Some mid) (Some new) (name, apart, free, put) removed = absurd put
+was_kept bytes (Some old) (Some mid) (Some new) (name, apart, free, put) removed =
     (name, removed name apart ∙ put.put ∙ ap stored put.right)
 
 -- bytes that are left out have another name than that note

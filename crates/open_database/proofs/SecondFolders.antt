@@ -11,7 +11,7 @@ use Rattle.saved_files.specs.Folder.{absent, stored, unsynced}
 use Rattle.saved_files.specs.Saved.{name_of}
 use Rattle.saved_files.specs.declared.saved_name.SavedName.TheVariants as saved
 use Rattle.open_database.specs.Backups.{AddsCopies, AddsFiles, AreBackedUp, FillsCopies, FillsCopy, IsBackedUp, IsBackup}
-use Rattle.open_database.specs.Backups.{IsBeginningOf, IsCopyOf, IsFilled, IsOfSame, IsUnfinished, KeepsAnother, KeepsBut}
+use Rattle.open_database.specs.Backups.{IsBeginningOf, IsCopyOf, IsFilled, IsOfSame, IsUnfinished, KeepsBut}
 use Rattle.open_database.specs.Backups.{KeepsFinished, KeepsOtherFiles, KeepsTheRest, NotesCopies, NotesOnly}
 use Rattle.open_database.specs.Backups.{PutsManifestLast, UnlessUnsynced}
 use Rattle.open_database.specs.DatabaseFolder.{HasBytes, Reads, ReadsIn}
@@ -151,9 +151,9 @@ adds_copies a b = so a b (λ old new adds n log master whole. adds n whole)
 keeps_manifest : (old new : Entries) → AddsFiles old new → new (codes "manifest") ≡ old (codes "manifest")
 keeps_manifest old new adds = elim (adds (codes "manifest") (λ same. log_manifest (sym same))
     (λ same. master_manifest (sym same)) manifest_finished) [
-  | inl same ↦ same
-  | inr none ↦ absurd (manifest_no_copy none.1)
-]
+      | inl same ↦ same
+      | inr none ↦ absurd (manifest_no_copy none.1)
+    ]
 
 -- ---- what a manifest names
 
@@ -222,14 +222,14 @@ filled_more first l m ids i id lt is only old mid new far fills =
     let this = name_of (saved.Copy id) in
     let of : ℕ → List ℕ = λ k. name_of (saved.Copy k) in
     let same_name : (n : List ℕ) → n ≡ this → IsFilled first m n (mid n) new = λ n same.
-      subst (λ x. IsFilled first m x (mid x) new) (sym same) fills.filled in
+    subst (λ x. IsFilled first m x (mid x) new) (sym same) fills.filled in
     let again : (k : ℕ) → IsFilled first l (of k) (old (of k)) mid → IsFilled first m (of k) (old (of k)) new = λ k it.
-      elim (by_test (of k) this) [
-        | inl same ↦ filled_twice first l m (of k) mid new (same_name (of k) same) (old (of k)) it
-        | inr apart ↦ still_filled first l m (of k) mid new (fills.others (of k) apart) (only (of k) apart) (old (of k)) it
-      ] in
+    elim (by_test (of k) this) [
+      | inl same ↦ filled_twice first l m (of k) mid new (same_name (of k) same) (old (of k)) it
+      | inr apart ↦ still_filled first l m (of k) mid new (fills.others (of k) apart) (only (of k) apart) (old (of k)) it
+    ] in
     let here : (k : ℕ) → mid (of k) ≡ old (of k) → of k ≡ this → IsFilled first m (of k) (old (of k)) new = λ k same one.
-      subst (λ e. IsFilled first m (of k) e new) same (same_name (of k) one) in
+    subst (λ e. IsFilled first m (of k) e new) same (same_name (of k) one) in
     let now : IsFilled first m this (old this) new = elim (far.any id) [
       | inl same ↦ here id same refl
       | inr it ↦ again id it
@@ -282,12 +282,12 @@ all_there : (first : Option Entries) (log ids : List ℕ) (master : List ℕ) (l
     → Puts (name_of saved.Master) (λ it. it ≡ master) c end → AreBackedUp first ids n a end
 all_there first log ids master l m n read read_master named copies only named_master a b c end same put fills last =
     let kept : c (name_of saved.Log) ≡ b (name_of saved.Log) =
-      elim (fills.others (name_of saved.Log) log_finished) [
-        | inl is ↦ is
-        | inr none ↦ absurd (log_no_copy none.1)
-      ] in
+    elim (fills.others (name_of saved.Log) log_finished) [
+      | inl is ↦ is
+      | inr none ↦ absurd (log_no_copy none.1)
+    ] in
     let noted : file_of (name_of saved.Log) n ≡ file_of (name_of saved.Log) l =
-      only (name_of saved.Log) log_master ∙ copies (name_of saved.Log) log_no_copy in
+    only (name_of saved.Log) log_master ∙ copies (name_of saved.Log) log_no_copy in
     let of : ℕ → List ℕ = λ k. name_of (saved.Copy k) in
     record {
       log = record {
@@ -298,12 +298,12 @@ all_there first log ids master l m n read read_master named copies only named_ma
       };
       goes_on = same.begins;
       copies = λ i x lt.
-        let id = get_or ids i x in
-        let apart = copy_apart (name_of saved.Log) log_no_copy id in
-        let away = copy_apart (name_of saved.Master) master_no_copy id in
-        is_backed first n (of id) end (a (of id)) (same.same i x lt)
-        (still_filled first m n (of id) c end (last.others (of id) away) (only (of id) away) (a (of id))
-        (subst (λ e. IsFilled first m (of id) e c) (put.others (of id) apart) (fills.filled i x lt)));
+          let id = get_or ids i x in
+          let apart = copy_apart (name_of saved.Log) log_no_copy id in
+          let away = copy_apart (name_of saved.Master) master_no_copy id in
+          is_backed first n (of id) end (a (of id)) (same.same i x lt)
+          (still_filled first m n (of id) c end (last.others (of id) away) (only (of id) away) (a (of id))
+          (subst (λ e. IsFilled first m (of id) e c) (put.others (of id) apart) (fills.filled i x lt)));
       master = record {
         bytes = master;
         read = read_master;
@@ -321,13 +321,14 @@ pub all_put : (first : Option Entries) (log ids master : List ℕ) (l m n : List
     → Changes (AreBackedUp first ids n) a end
 all_put first log ids master l m n read read_master named copies only named_master a b c end same put fills last =
     let Far : Entries → Entries → Type 0 = λ old mid. (new : Entries)
-      → Puts (name_of saved.Master) (λ it. it ≡ master) mid new → IsOfSame first log ids old
-      → AreBackedUp first ids n old new in
+    → Puts (name_of saved.Master) (λ it. it ≡ master) mid new → IsOfSame first log ids old
+    → AreBackedUp first ids n old new in
     let End : Entries → Entries → Type 0 = λ old new. IsOfSame first log ids old → AreBackedUp first ids n old new in
     given {Q = End} a end (λ old new is it. it is) same
     (then {P = Far} a c end (λ old mid new far p. far new p)
-    (then {R = Far} a b c (λ old mid new p q after r is. all_there first log ids master l m n read read_master named copies only
-    named_master old mid new after is p q r) put fills) last)
+    (then {R = Far} a b c (λ old mid new p q after r is.
+    all_there first log ids master l m n read read_master named copies only named_master old mid new after is p q r)
+    put fills) last)
 
 -- ---- the manifest, behind all else
 
@@ -337,15 +338,15 @@ unfolding still_there
 all_kept first ids l old mid new kept it =
     let of : ℕ → List ℕ = λ k. name_of (saved.Copy k) in
     let stays : (name : List ℕ) → name ≢ codes "manifest" → ¬ IsUnfinished name → IsBackedUp first l name mid
-        → IsBackedUp first l name new = λ name apart whole there.
-      still_there first l l name mid new (kept name apart whole) refl there in
+    → IsBackedUp first l name new = λ name apart whole there.
+    still_there first l l name mid new (kept name apart whole) refl there in
     record {
       log = stays (name_of saved.Log) log_manifest log_finished it.log;
       goes_on = it.goes_on;
       copies = λ i x lt. let id = get_or ids i x in
-        unless (IsBackedUp first l (of id) mid) (IsBackedUp first l (of id) new)
-        (stays (of id) (copy_apart (codes "manifest") manifest_no_copy id) (copy_finished id)) (old (of id))
-        (it.copies i x lt);
+          unless (IsBackedUp first l (of id) mid) (IsBackedUp first l (of id) new)
+          (stays (of id) (copy_apart (codes "manifest") manifest_no_copy id) (copy_finished id)) (old (of id))
+          (it.copies i x lt);
       master = stays (name_of saved.Master) master_manifest master_finished it.master;
     }
 
@@ -368,7 +369,7 @@ pub last_left : (first : Option Entries) (ids database : List ℕ) (listed : Lis
     → Changes (PutsOrKeeps (codes "manifest") (IsTextOf listed)) b c → Changes (PutsManifestLast first ids database) a c
 last_left first ids database listed a b c is files adds left =
     let Far : Entries → Entries → Type 0 = λ old mid. (new : Entries)
-      → PutsOrKeeps (codes "manifest") (IsTextOf listed) mid new → PutsManifestLast first ids database old new in
+    → PutsOrKeeps (codes "manifest") (IsTextOf listed) mid new → PutsManifestLast first ids database old new in
     then {P = Far} a b c (λ old mid new far after. far new after)
     (both {R = Far} a b (λ old mid all added new it. elim it.either [
       | inl whole ↦ inr (record {
@@ -431,7 +432,7 @@ still_same : (first : Option Entries) (log ids : List ℕ) (old new : Entries) �
 still_same first log ids old new kept it = record {
   begins = subst (IsBeginningOf log) (sym (kept (name_of saved.Log) log_finished)) it.begins;
   same = λ i x lt. let name = name_of (saved.Copy (get_or ids i x)) in
-    subst (IsCopyOf first name) (sym (kept name (copy_finished (get_or ids i x)))) (it.same i x lt);
+      subst (IsCopyOf first name) (sym (kept name (copy_finished (get_or ids i x)))) (it.same i x lt);
 }
 
 pub of_same_cleared : (first : Option Entries) (log ids : List ℕ) (a b : Option Entries)
@@ -454,8 +455,8 @@ backup_since first ids database old mid new kept it =
         log = it.files.log;
         goes_on = subst (IsBeginningOf it.files.log.bytes) (kept (name_of saved.Log) log_finished) it.files.goes_on;
         copies = λ i x lt. let id = get_or ids i x in
-          subst (λ e. UnlessUnsynced e (IsBackedUp first it.manifest.entries (of id) new))
-          (kept (of id) (copy_finished id)) (it.files.copies i x lt);
+            subst (λ e. UnlessUnsynced e (IsBackedUp first it.manifest.entries (of id) new))
+            (kept (of id) (copy_finished id)) (it.files.copies i x lt);
         master = it.files.master;
       };
       placed = it.placed;
@@ -496,16 +497,16 @@ pub rest_filled : (first : Option Entries) (log ids database : List ℕ) (a b c 
     → Changes KeepsFinished b c → Changes (PutsManifestLast first ids database) c d → Changes KeepsOtherFiles c d
     → Changes (KeepsTheRest first ids database) a d
 rest_filled first log ids database a b c d read same known kept last others =
-    then {P = SameCleared first log ids} {Q = λ mid new. PutsManifestLast first ids database mid new × KeepsOtherFiles mid new}
-    a c d (λ old mid new far after. record {
+    then {P = SameCleared first log ids}
+    {Q = λ mid new. PutsManifestLast first ids database mid new × KeepsOtherFiles mid new} a c d (λ old mid new far after. record {
       another = inr (log, read, far.0);
       last = elim after.0 [
         | inl stays ↦ inl (stays ∙ far.1 (codes "manifest") manifest_finished)
         | inr it ↦ inr (backup_since first ids database old mid new far.1 it)
       ];
       others = λ n log master manifest whole some.
-        let before = far.1 n whole in
-        after.1 n log master manifest whole (λ none. some (sym before ∙ none)) ∙ before;
+          let before = far.1 n whole in
+          after.1 n log master manifest whole (λ none. some (sym before ∙ none)) ∙ before;
     })
     (then {Q = SameCleared first log ids} a b c (λ old mid new is far.
     (still_same first log ids mid old (λ n whole. sym (is n)) far.0, λ n whole. far.1 n whole ∙ is n))

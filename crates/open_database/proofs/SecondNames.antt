@@ -1,6 +1,6 @@
 -- The names of the files of a backup.
-use Rattle.std.proofs.Common.{◌≡◌, ◌∙◌, ℕ, ◌+◌, ◌/◌, ◌%◌, List, [], ◌∷◌, ◌++◌, Bool, true, false, true≢false, ap, arith, get_or, inl, inr}
-use Rattle.std.proofs.Common.{refl, subst, suc, sym, zero}
+use Rattle.std.proofs.Common.{◌≡◌, ◌∙◌, ℕ, ◌+◌, ◌/◌, ◌%◌, List, [], ◌∷◌, ◌++◌, Bool, true, false, true≢false, ap, arith}
+use Rattle.std.proofs.Common.{get_or, inl, inr, refl, subst, suc, sym, zero}
 use Rattle.std.specs.Prelude.{◌≢◌, ◌⊎◌, ◌||◌, codes, decimal, if◌then◌else◌, nat_eq, nat_lt}
 use Rattle.std.specs.Fmt.{digit_glyph, digits, digits_onto}
 use Rattle.std.specs.Io.{StartsWith}

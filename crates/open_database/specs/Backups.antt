@@ -1,11 +1,16 @@
 -- What a backup makes: a checkpoint, a copy behind it, and files in a second folder.
-use Rattle.std.specs.Prelude.{ℕ, ◌≡◌, ◌≢◌, ◌⊎◌, ◌++◌, Bool, true, false, codes, List, None, Option}
-use Rattle.std.specs.Prelude.{Ok, Some}
+use Rattle.std.specs.Prelude.{ℕ, ◌≡◌, ◌≢◌, ◌⊎◌, ◌++◌, Bool, true, false, codes, List, [], ◌∷◌, None}
+use Rattle.std.specs.Prelude.{Ok, Option, Some, suc, zero}
 use Rattle.std.specs.Io.{StartsWith}
 use Rattle.std.specs.List.{All}
 use Rattle.copy_vault.specs.CopyWrite.{WritesCopy}
+use Rattle.copy_vault.specs.Vault.{CopyState, complete_of, state_of}
 use Rattle.engine_calls.specs.declared.event.Answer.{Answer}
 use Rattle.engine_rules.specs.EngineState.{EngineState}
+use Rattle.image_copies.specs.Copy.{CopyView}
+use Rattle.image_copies.specs.declared.copy_id.CopyKind.{CopyKind}
+use Rattle.image_copies.specs.declared.copy_id.CopyKind.TheVariants.{Full, Inc}
+use Rattle.image_copies.specs.declared.copy_id.TheConstants.{MAX_COPIES}
 use Rattle.manifest.specs.Entries.{Listed, Noted, file_of}
 use Rattle.manifest.specs.Text.{manifest_text}
 use Rattle.page_core.specs.declared.page.TheConstants.{MAX_PAGES}
@@ -129,6 +134,27 @@ pub record IsBackup (first : Option Entries) (ids database : List ℕ) (old new 
   pub of_this : manifest.database ≡ database
   pub files : AreBackedUp first ids manifest.entries old new
   pub placed : new (codes "manifest") ≡ stored (manifest_text manifest)
+
+-- what a copy of this kind stands on
+abbrev pub parent_of_kind : CopyKind → Option ℕ
+parent_of_kind Full = None
+parent_of_kind (Inc parent) = Some parent
+
+-- and the complete one, if there is one
+abbrev pub parent_of_copy : Option CopyView → Option ℕ
+parent_of_copy None = None
+parent_of_copy (Some copy) = parent_of_kind copy.kind
+
+-- a copy, the one that it stands on, and so on to a full one; so many at most
+abbrev pub chain_down : List CopyState → ℕ → Option ℕ → List ℕ
+chain_down copies zero next = []
+chain_down copies (suc n) None = []
+chain_down copies (suc n) (Some id) =
+    id ∷ chain_down copies n (parent_of_copy (complete_of (state_of copies id)))
+
+-- as many as a vault may have
+abbrev pub chain_from : List CopyState → ℕ → List ℕ
+chain_from copies id = chain_down copies MAX_COPIES (Some id)
 
 -- ---- what a backup keeps there, however it ends
 

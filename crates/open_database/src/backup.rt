@@ -1,7 +1,10 @@
 //! A checkpoint and a copy of a closed database.
 
-ghost use Rattle.std.specs.Prelude.{◌≡◌};
-ghost use Rattle.open_database.specs.Backups.{BacksUp, IsAskedFor, WasBackedUp};
+ghost use Rattle.std.specs.Prelude.{◌≡◌, IfOk, OnOk};
+ghost use Rattle.copy_vault.specs.Vault.{complete_of, state_of};
+ghost use Rattle.saved_files.specs.Folder.{Changes};
+ghost use Rattle.open_database.specs.Backups.{BacksUp, IsAskedFor, IsBackup, KeepsTheRest};
+ghost use Rattle.open_database.specs.Backups.{WasBackedUp, chain_from, parent_of_copy};
 ghost use Rattle.open_database.specs.declared.open.OpenEnd.TheVariants.{Well};
 
 use crate::checkpoint_and_copy::checkpoint_and_copy;
@@ -119,14 +122,7 @@ fn put_into<F: DatabaseFolder, S: PageStore, D: LogDevice>(
     let notes = Notes::new();
     let teller = Teller::new(rt, into);
     let mut folder = SystemDatabase::new(rt, into, (&notes, &notes));
-    let put = match chain_of(session.alloc, session.engine.copies(), CopyId(id)) {
-        Ok(chain) => {
-            let database = kept.manifest.database();
-            put_beside(&teller, &session.folder, &mut folder, &chain, database)
-        }
-        Err(_) => Err(OpenFault::OutOfMemory),
-    };
-    match put {
+    match put_chain(&teller, session, kept, id, &mut folder) {
         Ok(()) => OpenEnd::Well,
         Err(fault) => {
             teller.tell_fault(&fault, &notes);
@@ -135,13 +131,36 @@ fn put_into<F: DatabaseFolder, S: PageStore, D: LogDevice>(
     }
 }
 
+/// Puts the log, the master record and the chain of a copy into a second folder.
+fn put_chain<F: DatabaseFolder, G: DatabaseFolder, S: PageStore, D: LogDevice>(
+    teller: &Teller<'_>,
+    session: &Session<'_, F, S, D>,
+    kept: &KeptManifest,
+    id: u32,
+    folder: &mut G,
+) -> Result<(), OpenFault>
+    ensures put { OnOk result (Changes (IsBackup (F.entries session.now.folder)
+        (chain_from session.now.engine.state.copies id) kept.now.manifest.database)
+        (G.entries folder.old) (G.entries folder.new)) }
+    ensures stored { OnOk result (G.is_stored folder.new) }
+    ensures rest { Changes (KeepsTheRest (F.entries session.now.folder)
+        (chain_from session.now.engine.state.copies id) kept.now.manifest.database)
+        (G.entries folder.old) (G.entries folder.new) }
+{
+    let chain = chain_of(session.alloc, session.engine.copies(), CopyId(id))?;
+    let database = kept.manifest.database();
+    put_beside(teller, &session.folder, folder, &chain, database)
+}
+
 /// The copies of this one's chain, that one first.
-fn chain_of(alloc: Global, vault: &Vault, id: CopyId) -> Result<Vec<CopyId>, AllocError> {
+fn chain_of(alloc: Global, vault: &Vault, id: CopyId) -> Result<Vec<CopyId>, AllocError>
+    ensures { IfOk result (λ it. it.items ≡ chain_from vault.now.copies id) }
+{
     let mut chain = Vec::new(alloc);
     let mut next = Some(id);
     for _ in 0..MAX_COPIES {
         let Some(id) = next else {
-            break;
+            return Ok(chain);
         };
         chain.push(id)?;
         next = parent_of(vault, id);
@@ -150,7 +169,9 @@ fn chain_of(alloc: Global, vault: &Vault, id: CopyId) -> Result<Vec<CopyId>, All
 }
 
 /// The copy that a complete one stands on.
-fn parent_of(vault: &Vault, id: CopyId) -> Option<CopyId> {
+fn parent_of(vault: &Vault, id: CopyId) -> Option<CopyId>
+    ensures { result ≡ parent_of_copy (complete_of (state_of vault.now.copies id)) }
+{
     match vault.complete(id)?.kind() {
         CopyKind::Full => None,
         CopyKind::Inc(parent) => Some(parent),

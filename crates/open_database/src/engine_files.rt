@@ -39,8 +39,8 @@ impl<S: PageStore, D: LogDevice> Source for EngineCopy<'_, S, D> {
     }
 }
 
-/// Puts a file in its place, and has its name last. At a fault the name has the old file or the new
-/// one, whole, and so it has after a crash.
+/// Puts a file in its place, and has its name last. At a fault the name has the old file or the
+/// new one, whole, and so it has after a crash.
 pub(crate) fn place<F: Folder, S: Source>(
     folder: &mut F,
     alloc: Global,

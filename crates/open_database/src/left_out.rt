@@ -4,7 +4,9 @@ ghost use Rattle.std.specs.Prelude.{◌≡◌, ◌≢◌, ◌↔◌, ◌++◌, I
 ghost use Rattle.std.specs.String.{string_bytes};
 ghost use Rattle.std.specs.Io.KnownBytes.{Appends};
 ghost use Rattle.saved_files.specs.FileFault.{Leaves};
+ghost use Rattle.saved_files.specs.Folder.{Changes, IsSame};
 ghost use Rattle.open_database.specs.LeftOut.{IsKept, IsWorthKeeping};
+ghost use Rattle.open_database.specs.MovedAside.{IsFree};
 
 use crate::database_folder::DatabaseFolder;
 use crate::fault::OpenFault;
@@ -59,6 +61,8 @@ pub(crate) fn put_aside<F: DatabaseFolder>(
     ensures kept { OnOk result (IsWorthKeeping bytes.now
         → IsKept (F.entries folder.old) bytes.now (F.entries folder.new)) }
     ensures stored { OnOk result (IsWorthKeeping bytes.now → F.is_stored folder.new) }
+    ensures same { OnOk result (¬ IsWorthKeeping bytes.now
+        → Changes IsSame (F.entries folder.old) (F.entries folder.new)) }
     ensures claimed { F.is_claimed folder.new }
 {
     if !is_worth_keeping(bytes) {
@@ -78,7 +82,8 @@ pub(crate) fn put_aside<F: DatabaseFolder>(
 
 /// The first name for such bytes that nothing in the folder has.
 fn free_name<F: DatabaseFolder>(alloc: Global, folder: &F) -> Result<String, OpenFault>
-    ensures { IfOk result (λ it. string_bytes it ≢ codes "closed") }
+    ensures apart { IfOk result (λ it. string_bytes it ≢ codes "closed") }
+    ensures free { IfOk result (λ it. IsFree (string_bytes it) (F.entries folder.now)) }
 {
     for number in 1..=MOST_LEFT_OUT {
         let name = name_of(alloc, number)?;

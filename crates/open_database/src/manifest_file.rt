@@ -24,7 +24,8 @@ pub(crate) fn put_text<F: Folder>(
         (bytes_by (λ old new. Appends old new (manifest_text manifest.now)))
         (F.entries folder.new)) }
     ensures changed { OnOk result (Changes
-        (Puts (codes "manifest") (bytes_by (λ old new. Appends old new (manifest_text manifest.now))))
+        (Puts (codes "manifest")
+        (bytes_by (λ old new. Appends old new (manifest_text manifest.now))))
         (F.entries folder.old) (F.entries folder.new)) }
     ensures left { OnErr result (Changes (PutsOrKeeps (codes "manifest")
         (bytes_by (λ old new. Appends old new (manifest_text manifest.now))))

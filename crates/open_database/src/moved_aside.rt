@@ -1,10 +1,10 @@
 //! What has a name that a file of this life is to have gets another name.
 
-ghost use Rattle.std.specs.Prelude.{◌≡◌, IfOk, OnOk};
+ghost use Rattle.std.specs.Prelude.{◌≡◌, IfOk, OnOk, string_bytes};
 ghost use Rattle.saved_files.specs.Folder.{Changes, IsRenamed};
 ghost use Rattle.saved_files.specs.Saved.{name_of};
 ghost use Rattle.saved_files.specs.declared.saved_name.SavedName.TheVariants as saved;
-ghost use Rattle.open_database.specs.MovedAside.{IsFreed};
+ghost use Rattle.open_database.specs.MovedAside.{IsFree, IsFreed};
 
 use crate::database_folder::DatabaseFolder;
 use crate::names::{MANIFEST, MASTER};
@@ -122,7 +122,9 @@ fn rename_lastingly<F: Folder>(folder: &mut F, from: &str, to: &str) -> io::Resu
 }
 
 /// The first name for a refused file of this name that nothing in the folder has.
-fn free_name<F: DatabaseFolder>(alloc: Global, folder: &F, name: &str) -> io::Result<String> {
+fn free_name<F: DatabaseFolder>(alloc: Global, folder: &F, name: &str) -> io::Result<String>
+    ensures { IfOk result (λ it. IsFree (string_bytes it) (F.entries folder.now)) }
+{
     for number in 1..=MOST_REFUSED {
         let aside = name_aside(alloc, name, number)?;
         if !folder.has(aside.as_str())? {

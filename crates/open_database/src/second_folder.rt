@@ -202,8 +202,8 @@ fn check_same<O: DatabaseFolder, F: DatabaseFolder>(
     }
 }
 
-/// Puts the files of a backup where what stands is of the same database as this log, and the manifest
-/// behind them.
+/// Puts the files of a backup where what stands is of the same database as this log, and the
+/// manifest behind them.
 fn fill<O: DatabaseFolder, F: DatabaseFolder>(
     alloc: Global,
     from: &O,

@@ -1,4 +1,4 @@
-use Rattle.std.proofs.Common.{◌≡◌, ◌∙◌, List, ℕ, subst}
+use Rattle.std.proofs.Common.{◌∙◌, List, ℕ, subst}
 use Rattle.saved_files.specs.Folder.{Changes, LeavesWhole}
 use Rattle.saved_files.specs.PutFault.{bytes_by}
 use Rattle.open_database.proofs.Puts.{whole_kept}

@@ -1,6 +1,7 @@
-use Rattle.std.proofs.Common.{◌≡◌, subst, sym, ◌∙◌}
+use Rattle.std.proofs.Common.{◌≡◌, List, ℕ, subst, sym, ◌∙◌}
 use Rattle.std.specs.Prelude.{OnOk}
 use Rattle.saved_files.specs.Folder.{Changes, Puts}
+use Rattle.open_database.specs.MovedAside.{IsFree}
 use Rattle.open_database.proofs.Puts.{put_and_synced}
 use Rattle.open_database.proofs.left_out.put_aside.Goals as goal
 
@@ -9,7 +10,9 @@ returns-clause-kept g c worth =
     let name = c.as_str.result.now in
     let entries = g.F.Folder.entries in (
       name,
-      (λ same. c.in_ok-name.ensures (sym c.as_str.ensures.value ∙ same)),
+      (λ same. c.in_ok-name.ensures.apart (sym c.as_str.ensures.value ∙ same)),
+      subst (λ (n : List ℕ). IsFree n (entries c.args.folder.now)) (sym c.as_str.ensures.value)
+          c.in_ok-name.ensures.free,
       put_and_synced name (λ it. it ≡ c.args.bytes.now) (entries c.args.folder.now)
           (entries c.put_in_place-put.new.folder) (entries c.sync_names.new.self)
           (subst (λ r. OnOk r (Changes (Puts name (λ it. it ≡ c.args.bytes.now)) (entries c.args.folder.now)

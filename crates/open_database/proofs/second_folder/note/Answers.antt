@@ -1,5 +1,4 @@
-use Rattle.std.proofs.Common.{◌≡◌, ◌∙◌, List, ℕ, refl, subst, sym, Some}
-use Rattle.std.specs.Prelude.{◌≢◌}
+use Rattle.std.proofs.Common.{◌≡◌, ◌∙◌, List, ℕ, refl, subst, Some}
 use Rattle.manifest.specs.Entries.{file_of}
 use Rattle.manifest.specs.declared.entry.FileSum.{FileSum}
 use Rattle.open_database.proofs.second_folder.note.Goals as goal

@@ -1,4 +1,4 @@
-use Rattle.std.proofs.Common.{List, ℕ, subst, sym}
+use Rattle.std.proofs.Common.{subst, sym}
 use Rattle.saved_files.specs.Saved.{name_of}
 use Rattle.saved_files.specs.declared.saved_name.SavedName.TheVariants as saved
 use Rattle.open_database.specs.DatabaseFolder.{HasBytes}
@@ -11,7 +11,7 @@ returns-clause-put g c =
     let entries = g.F.Folder.entries in
     let master = c.deref.result.now in
     let read : HasBytes first (name_of saved.Master) master =
-      subst (HasBytes first (name_of saved.Master)) (sym c.deref.ensures.value) c.in_ok-master.ensures in
+    subst (HasBytes first (name_of saved.Master)) (sym c.deref.ensures.value) c.in_ok-master.ensures in
     on_ok_all c.put-2.result (λ put noted named.
     all_put first c.args.log.now c.args.copies.now master c.put.new.manifest.entries
     c.put_copies.new.manifest.entries c.put-2.new.manifest.entries c.requires.read read c.in_ok-put.ensures.named
