@@ -14,6 +14,7 @@ pub mod MovedAside
 pub mod Opened
 pub mod Pending
 pub mod PowerCuts
+pub mod Refused
 pub mod Said
 pub mod Session
 pub mod WholeLives

@@ -6,8 +6,8 @@ ghost use Rattle.log_records.specs.Log.{IsPageCount};
 ghost use Rattle.engine_rules.specs.EngineState.{new_state};
 ghost use Rattle.page_core.specs.Volume.{formatted_pages};
 
+use crate::change_fault::ChangeFault;
 use crate::database_folder::DatabaseFolder;
-use crate::fault::OpenFault;
 use crate::place::Place;
 use crate::volume_file::volume_of;
 use aries_core::{Engine, PlayFault, Setup};
@@ -23,7 +23,7 @@ pub(crate) fn begin<F: DatabaseFolder>(
     folder: &mut F,
     log: Option<F::Log>,
     setup: Setup,
-) -> Result<Engine<F::Volume, FileLog<F::LogDisk>>, OpenFault>
+) -> Result<Engine<F::Volume, FileLog<F::LogDisk>>, ChangeFault>
     requires pages { IsPageCount setup.pages }
     requires frames { IsFrameCount setup.frames }
     requires claimed { F.is_claimed folder.old }
@@ -41,7 +41,7 @@ fn new_volume<F: DatabaseFolder>(
     alloc: Global,
     folder: &mut F,
     pages: u32,
-) -> Result<F::Volume, OpenFault>
+) -> Result<F::Volume, ChangeFault>
     requires pages { IsPageCount pages }
     requires claimed { F.is_claimed folder.old }
     ensures formatted { IfOk result (λ it. F.Volume.stored it ≡ formatted_pages pages) }
@@ -52,7 +52,7 @@ fn new_volume<F: DatabaseFolder>(
     let store = volume_of(folder, pages)?;
     match folder.sync_names() {
         Ok(()) => Ok(store),
-        Err(error) => Err(OpenFault::of_folder(error)),
+        Err(error) => Err(ChangeFault::of_folder(error)),
     }
 }
 
@@ -62,7 +62,7 @@ fn engine_on<F: DatabaseFolder>(
     setup: Setup,
     store: F::Volume,
     log: F::Log,
-) -> Result<Engine<F::Volume, FileLog<F::LogDisk>>, OpenFault>
+) -> Result<Engine<F::Volume, FileLog<F::LogDisk>>, ChangeFault>
     requires pages { IsPageCount setup.pages }
     requires frames { IsFrameCount setup.frames }
     requires formatted { F.Volume.stored store ≡ formatted_pages setup.pages }
@@ -70,12 +70,12 @@ fn engine_on<F: DatabaseFolder>(
 {
     let log = match F::emptied(alloc, log) {
         Ok(log) => log,
-        Err(error) => return Err(OpenFault::of(Place::Log, &error)),
+        Err(error) => return Err(ChangeFault::of(Place::Log, &error)),
     };
     match Engine::new(alloc, setup, store, log) {
         Ok(engine) => Ok(engine),
-        Err((PlayFault::OutOfMemory, _)) => Err(OpenFault::OutOfMemory),
-        Err((PlayFault::LogFault, log)) => Err(OpenFault::NoHeader(code_of(log.error()))),
+        Err((PlayFault::OutOfMemory, _)) => Err(ChangeFault::OutOfMemory),
+        Err((PlayFault::LogFault, log)) => Err(ChangeFault::NoHeader(code_of(log.error()))),
     }
 }
 
@@ -86,7 +86,7 @@ pub(crate) fn code_of(error: Option<io::Error>) -> Option<i32> {
 
 /// The file of the log. Its name lasts before there is a volume: one that is there may be of a life
 /// that was killed before its name lasted.
-fn log_at<F: DatabaseFolder>(folder: &mut F, log: Option<F::Log>) -> Result<F::Log, OpenFault>
+fn log_at<F: DatabaseFolder>(folder: &mut F, log: Option<F::Log>) -> Result<F::Log, ChangeFault>
     requires { F.is_claimed folder.old }
     ensures stored { OnOk result (F.is_stored folder.new) }
     ensures claimed { F.is_claimed folder.new }
@@ -97,6 +97,6 @@ fn log_at<F: DatabaseFolder>(folder: &mut F, log: Option<F::Log>) -> Result<F::L
     };
     match folder.sync_names() {
         Ok(()) => Ok(file),
-        Err(error) => Err(OpenFault::of_folder(error)),
+        Err(error) => Err(ChangeFault::of_folder(error)),
     }
 }

@@ -6,6 +6,7 @@ ghost use Rattle.saved_files.specs.FileFault.{Leaves};
 ghost use Rattle.saved_files.specs.Folder.{Changes, IsRemoved};
 ghost use Rattle.open_database.specs.Closed.{note_of};
 
+use crate::change_fault::ChangeFault;
 use crate::database_folder::{DatabaseFolder, Standing};
 use crate::fault::OpenFault;
 use crate::names::CLOSED;
@@ -69,7 +70,7 @@ fn note_in(bytes: &[u8]) -> Option<ClosedNote> {
 }
 
 /// Removes the note, and sees that its name is gone for certain.
-pub(crate) fn remove_note<F: DatabaseFolder>(folder: &mut F) -> Result<(), OpenFault>
+pub(crate) fn remove_note<F: DatabaseFolder>(folder: &mut F) -> Result<(), ChangeFault>
     requires { F.is_claimed folder.old }
     ensures stored { OnOk result (F.is_stored folder.new) }
     ensures removed { OnOk result
@@ -77,7 +78,7 @@ pub(crate) fn remove_note<F: DatabaseFolder>(folder: &mut F) -> Result<(), OpenF
     ensures claimed { F.is_claimed folder.new }
 {
     match folder.remove(CLOSED) {
-        Ok(()) => folder.sync_names().map_err(OpenFault::of_folder),
-        Err(error) => Err(OpenFault::of(Place::Closed, &error)),
+        Ok(()) => folder.sync_names().map_err(ChangeFault::of_folder),
+        Err(error) => Err(ChangeFault::of(Place::Closed, &error)),
     }
 }

@@ -60,7 +60,7 @@ fn volume_in(alloc: Global, bytes: &[u8], others: &Others) -> Result<Vec<Page>, 
     }
     match committed_pages(front) {
         Ok(pages) => Ok(pages),
-        Err(why) => Err(OpenFault::Restart(why, None)),
+        Err(why) => Err(OpenFault::Restart(why)),
     }
 }
 

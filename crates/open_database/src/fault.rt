@@ -1,13 +1,12 @@
 //! Why a database was not opened.
 
+use crate::change_fault::ChangeFault;
 use crate::evidence::Loss;
 use crate::place::Place;
-use aries_core::{NotResumed, Refusal};
+use aries_core::Refusal;
 use engine_restart::{FoundFault, RestartFault};
-use log_store::LogDevice;
 use manifest::ManifestFault;
 use page_core::FaultName;
-use page_store::PageStore;
 use saved_files::FileFault;
 use std::alloc::{AllocError, AllocFailed};
 use std::io;
@@ -17,8 +16,8 @@ use system_files::ClaimFault;
 /// The number that the system has for a file that is not there.
 pub(crate) const NO_ENTRY: i32 = 2;
 
-/// Why a database was not opened. The first of these come before anything in the folder is touched;
-/// behind them come those of what an opening does.
+/// Why a database was not opened. At all of these but a fault of a change an opening has only looked
+/// at the folder.
 #[derive(Debug, Drop)]
 pub(crate) enum OpenFault {
     OutOfMemory,
@@ -70,13 +69,10 @@ pub(crate) enum OpenFault {
     OtherCount { there: u32, told: u32 },
     /// A file may have so many bytes at most, and a log may need more.
     SmallFiles(u64),
-    /// The bytes behind the log could not be put aside, so they were not cut off.
-    NotAside(FileFault),
-    /// What was open in the log could not be taken back. The system has this number for why, if it
-    /// was a call of the log's file.
-    Restart(RestartFault, Option<i32>),
-    /// The header of a new log could not be stored.
-    NoHeader(Option<i32>),
+    /// What was open in the log could not be taken back in memory.
+    Restart(RestartFault),
+    /// The folder was being changed for a new life, and this failed.
+    Change(ChangeFault),
 }
 
 impl OpenFault {
@@ -105,7 +101,7 @@ impl OpenFault {
             OpenFault::OutOfMemory
             | OpenFault::BadManifest(ManifestFault::OutOfMemory)
             | OpenFault::Found(FoundFault::OutOfMemory)
-            | OpenFault::Restart(RestartFault::OutOfMemory, _) => Some(FaultName::OutOfMemory),
+            | OpenFault::Restart(RestartFault::OutOfMemory) => Some(FaultName::OutOfMemory),
             OpenFault::System(
                 Place::Log | Place::Master | Place::Closed | Place::Manifest | Place::Copy(_),
                 _,
@@ -125,7 +121,6 @@ impl OpenFault {
             }
             OpenFault::System(Place::Folder, _)
             | OpenFault::LogOpen
-            | OpenFault::NotAside(_)
             | OpenFault::Unput(_, _)
             | OpenFault::SmallFiles(_) => Some(FaultName::WriteFault),
             OpenFault::Found(_) => Some(FaultName::BadHeader),
@@ -141,10 +136,9 @@ impl OpenFault {
             | OpenFault::Stranger(_)
             | OpenFault::NoCount
             | OpenFault::OtherCount { .. } => None,
-            OpenFault::Restart(RestartFault::LogFull, _) => Some(FaultName::LogFull),
-            OpenFault::Restart(RestartFault::LogFault, _) | OpenFault::NoHeader(_) => {
-                Some(FaultName::LogFault)
-            }
+            OpenFault::Restart(RestartFault::LogFull) => Some(FaultName::LogFull),
+            OpenFault::Restart(RestartFault::LogFault) => Some(FaultName::LogFault),
+            OpenFault::Change(why) => Some(why.name()),
         }
     }
 }
@@ -167,8 +161,13 @@ impl From<ClaimFault> for OpenFault {
     }
 }
 
-impl<S: PageStore + Drop, D: LogDevice + Drop> From<NotResumed<S, D>> for OpenFault {
-    fn from(_not: NotResumed<S, D>) -> OpenFault {
-        OpenFault::OutOfMemory
+impl From<ChangeFault> for OpenFault {
+    ghost use Rattle.std.specs.Prelude.{◌≡◌};
+    ghost use Rattle.open_database.specs.declared.fault.OpenFault.TheVariants.{Change};
+
+    ghost from_gives = { λ why fault. fault ≡ Change why };
+
+    fn from(why: ChangeFault) -> OpenFault {
+        OpenFault::Change(why)
     }
 }

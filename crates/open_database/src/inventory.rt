@@ -1,5 +1,6 @@
 //! What stands in a folder before it is opened.
 
+use crate::change_fault::ChangeFault;
 use crate::database_folder::DatabaseFolder;
 use crate::fault::OpenFault;
 use crate::names::{CLOSED, LOG, MANIFEST, MASTER, VOLUME, copy_of, is_harmless, is_unfinished};
@@ -55,7 +56,7 @@ impl Inventory {
     }
 
     /// Removes what older lives left unfinished.
-    pub fn clear<F: DatabaseFolder>(&self, folder: &mut F) -> Result<(), OpenFault>
+    pub fn clear<F: DatabaseFolder>(&self, folder: &mut F) -> Result<(), ChangeFault>
         requires { F.is_claimed folder.old }
         ensures { F.is_claimed folder.new }
     {
@@ -104,7 +105,7 @@ impl Inventory {
 pub(crate) fn remove_all<F: DatabaseFolder>(
     folder: &mut F,
     names: &[String],
-) -> Result<(), OpenFault>
+) -> Result<(), ChangeFault>
     requires { F.is_claimed folder.old }
     ensures { F.is_claimed folder.new }
 {
@@ -112,7 +113,7 @@ pub(crate) fn remove_all<F: DatabaseFolder>(
         match folder.remove(name.as_str()) {
             Ok(()) => {}
             Err(error) if error.kind() == ErrorKind::IsADirectory => {}
-            Err(error) => return Err(OpenFault::of_folder(error)),
+            Err(error) => return Err(ChangeFault::of_folder(error)),
         }
     }
     Ok(())

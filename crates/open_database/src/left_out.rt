@@ -8,8 +8,8 @@ ghost use Rattle.saved_files.specs.Folder.{Changes, IsSame};
 ghost use Rattle.open_database.specs.LeftOut.{IsKept, IsWorthKeeping};
 ghost use Rattle.open_database.specs.MovedAside.{IsFree};
 
+use crate::change_fault::ChangeFault;
 use crate::database_folder::DatabaseFolder;
-use crate::fault::OpenFault;
 use crate::names::LEFT_OUT;
 use crate::place::Place;
 use crate::told::Teller;
@@ -56,7 +56,7 @@ pub(crate) fn put_aside<F: DatabaseFolder>(
     teller: &Teller<'_>,
     folder: &mut F,
     bytes: &[u8],
-) -> Result<(), OpenFault>
+) -> Result<(), ChangeFault>
     requires { F.is_claimed folder.old }
     ensures kept { OnOk result (IsWorthKeeping bytes.now
         → IsKept (F.entries folder.old) bytes.now (F.entries folder.new)) }
@@ -72,16 +72,16 @@ pub(crate) fn put_aside<F: DatabaseFolder>(
     let mut source = LeftOut { bytes };
     let put = put_in_place(folder, teller.alloc, name.as_str(), &mut source);
     if let Err(PutFault::Unmade(why) | PutFault::Unwritten(why) | PutFault::Unplaced(why)) = put {
-        return Err(OpenFault::NotAside(why));
+        return Err(ChangeFault::NotAside(why));
     }
-    folder.sync_names().map_err(OpenFault::of_folder)?;
+    folder.sync_names().map_err(ChangeFault::of_folder)?;
     let new = name.as_str();
     teller.tell(Place::Log, &format_args!("they are now {new}"));
     Ok(())
 }
 
 /// The first name for such bytes that nothing in the folder has.
-fn free_name<F: DatabaseFolder>(alloc: Global, folder: &F) -> Result<String, OpenFault>
+fn free_name<F: DatabaseFolder>(alloc: Global, folder: &F) -> Result<String, ChangeFault>
     ensures apart { IfOk result (λ it. string_bytes it ≢ codes "closed") }
     ensures free { IfOk result (λ it. IsFree (string_bytes it) (F.entries folder.now)) }
 {
@@ -90,10 +90,10 @@ fn free_name<F: DatabaseFolder>(alloc: Global, folder: &F) -> Result<String, Ope
         match folder.has(name.as_str()) {
             Ok(true) => {}
             Ok(false) => return Ok(name),
-            Err(error) => return Err(OpenFault::of_folder(error)),
+            Err(error) => return Err(ChangeFault::of_folder(error)),
         }
     }
-    Err(OpenFault::NotAside(FileFault::WriteFault(0)))
+    Err(ChangeFault::NotAside(FileFault::WriteFault(0)))
 }
 
 fn name_of(alloc: Global, number: u32) -> Result<String, AllocError>

@@ -6,6 +6,7 @@ mod backup;
 mod bad_call;
 mod begin;
 mod call_kind;
+mod change_fault;
 mod checkpoint_and_copy;
 mod closed_note;
 mod closed_volume;

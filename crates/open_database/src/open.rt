@@ -4,11 +4,13 @@ ghost use Rattle.std.specs.Prelude.{ℕ, ◌≡◌, ◌≢◌, ◌⊎◌, IfErr,
 ghost use Rattle.std.specs.Prelude.{Some};
 ghost use Rattle.buffer_pool.specs.Pool.{IsFrameCount};
 ghost use Rattle.log_records.specs.Log.{IsPageCount};
+ghost use Rattle.saved_files.specs.Folder.{Changes, IsSame};
 ghost use Rattle.std.specs.Io.KnownBytes.{Appends};
 ghost use Rattle.open_database.specs.Calls.{Lives};
 ghost use Rattle.open_database.specs.DatabaseFolder.{OpensLog};
 ghost use Rattle.open_database.specs.FirstLine.{first_line};
 ghost use Rattle.open_database.specs.Opened.{Begins, IsNew, len_of};
+ghost use Rattle.open_database.specs.Refused.{IsRefusal};
 ghost use Rattle.open_database.specs.Session.{LeavesLine, LivesByLines, ServesLines};
 ghost use Rattle.open_database.specs.WholeLives.{LivedByLines};
 ghost use Rattle.open_database.specs.declared.open.OpenEnd.TheVariants.{Failed};
@@ -240,6 +242,9 @@ pub(crate) fn opened<F: DatabaseFolder>(
         × Begins (F.entries folder.old) log ids call.now.pages call.now.frames it.first
         it.engine.state) }
     ensures claimed { IfOk result (λ _. F.is_claimed folder.new) }
+    // The folder was only looked at.
+    ensures refused { IfErr result (λ fault. IsRefusal fault
+        → Changes IsSame (F.entries folder.old) (F.entries folder.new)) }
 {
     if let Some(most) = folder.low_limit()? {
         return Err(OpenFault::SmallFiles(most));
@@ -264,6 +269,8 @@ fn open_from<F: DatabaseFolder>(
     requires there { OpensLog (F.entries folder.old) F.held log }
     ensures begins { IfOk result (λ it. Begins (F.entries folder.old) (len_of log)
         there.now.copies.items call.now.pages call.now.frames it.first it.engine.state) }
+    ensures refused { IfErr result (λ fault. IsRefusal fault
+        → Changes IsSame (F.entries folder.old) (F.entries folder.new)) }
     ensures claimed { F.is_claimed folder.new }
 {
     let Some(log) = log else {
@@ -291,6 +298,8 @@ fn begun<F: DatabaseFolder>(
         it.engine.state) }
     // The names of the log and of the volume last.
     ensures stored { IfOk result (λ _. F.is_stored folder.new) }
+    ensures refused { IfErr result (λ fault. IsRefusal fault
+        → Changes IsSame (F.entries folder.old) (F.entries folder.new)) }
     ensures claimed { F.is_claimed folder.new }
 {
     let alloc = teller.alloc;

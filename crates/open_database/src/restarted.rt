@@ -1,6 +1,7 @@
 //! A database that is opened again.
 
-ghost use Rattle.std.specs.Prelude.{◌≡◌, ◌≢◌, ◌⊎◌, [], false, IfOk, IsTrue, None, OnOk, length, map};
+ghost use Rattle.std.specs.Prelude.{◌≡◌, ◌≢◌, ◌⊎◌, [], false, IfErr, IfOk, IsTrue, None, OnOk};
+ghost use Rattle.std.specs.Prelude.{length, map};
 ghost use Rattle.buffer_pool.specs.Pool.{IsFrameCount};
 ghost use Rattle.engine_restart.specs.LogFile.{LastsOnFile};
 ghost use Rattle.engine_restart.specs.Restart.{undone_log};
@@ -12,16 +13,18 @@ ghost use Rattle.log_rules.specs.Transactions.{open_in};
 ghost use Rattle.open_database.specs.Closed.{IsVouched};
 ghost use Rattle.open_database.specs.Copies.{TakesUp, ids_unread};
 ghost use Rattle.open_database.specs.DatabaseFolder.{HasLogBytes, IsLogIn};
-ghost use Rattle.saved_files.specs.Folder.{Changes, KeepsOthers};
+ghost use Rattle.saved_files.specs.Folder.{Changes, IsSame, KeepsOthers};
 ghost use Rattle.open_database.specs.Evidence.{LacksNothing};
 ghost use Rattle.open_database.specs.FirstLine.{told_of};
 ghost use Rattle.open_database.specs.LeftOut.{IsKept, IsWorthKeeping, WasKept};
 ghost use Rattle.open_database.specs.LeftOut.{behind};
 ghost use Rattle.open_database.specs.Master.{spelled};
 ghost use Rattle.open_database.specs.Opened.{GoesOnFromFile, GoesOnWith};
+ghost use Rattle.open_database.specs.Refused.{IsRefusal};
 ghost use Rattle.open_database.specs.declared.first_line.FirstLine.TheVariants as line;
 
 use crate::begin::code_of;
+use crate::change_fault::ChangeFault;
 use crate::closed_note::{ClosedNote, read_note, remove_note};
 use crate::copies::take_up;
 use crate::database_folder::DatabaseFolder;
@@ -100,6 +103,8 @@ pub(crate) fn reopen<F: DatabaseFolder>(
     requires there { IsLogIn (F.entries folder.old) F.held log }
     ensures goes_on { IfOk result (λ it. GoesOnFromFile (F.entries folder.old) log.len
         there.now.copies.items it.first it.engine.state) }
+    ensures refused { IfErr result (λ fault. IsRefusal fault
+        → Changes IsSame (F.entries folder.old) (F.entries folder.new)) }
     ensures claimed { F.is_claimed folder.new }
 {
     let mut remains = find(teller, folder, log, there)?;
@@ -201,6 +206,8 @@ fn prepare<F: DatabaseFolder>(
     // What the log's file gave is taken at its word only where the last closing vouches for it.
     ensures vouched { OnOk result ((remains.new.log.device.is_read ≡ false)
         ⊎ IsVouched remains.old.others.note (end_of remains.old.log.front.log)) }
+    ensures refused { IfErr result (λ fault. IsRefusal fault
+        → Changes IsSame (F.entries folder.old) (F.entries folder.new)) }
     ensures claimed { F.is_claimed folder.new }
 {
     let (loss, sums) = checked(teller, folder, call, remains)?;
@@ -287,7 +294,7 @@ fn silence<F: DatabaseFolder>(
     teller: &Teller<'_>,
     folder: &mut F,
     loss: &Loss,
-) -> Result<(), OpenFault>
+) -> Result<(), ChangeFault>
     requires { F.is_claimed folder.old }
     ensures { F.is_claimed folder.new }
 {
@@ -300,7 +307,7 @@ fn silence<F: DatabaseFolder>(
             }
             Witness::Closed | Witness::Record => Ok(()),
         };
-        moved.map_err(OpenFault::of_folder)?;
+        moved.map_err(ChangeFault::of_folder)?;
     }
     Ok(())
 }
@@ -312,7 +319,7 @@ fn settle<F: DatabaseFolder>(
     folder: &mut F,
     there: &Inventory,
     remains: &mut Remains<F::LogDisk>,
-) -> Result<(), OpenFault>
+) -> Result<(), ChangeFault>
     requires lasting { LastsOnFile remains.old.log.front.log remains.old.log.device }
     requires claimed { F.is_claimed folder.old }
     ensures log { remains.new.log.front.log ≡ remains.old.log.front.log }
@@ -345,7 +352,7 @@ fn keep_behind<F: DatabaseFolder>(
     teller: &Teller<'_>,
     folder: &mut F,
     found: &FoundLog<FileLog<F::LogDisk>>,
-) -> Result<(), OpenFault>
+) -> Result<(), ChangeFault>
     requires { F.is_claimed folder.old }
     ensures kept { OnOk result (found.now.front.cut ≢ None → IsWorthKeeping (behind found.now)
         → IsKept (F.entries folder.old) (behind found.now) (F.entries folder.new)) }
@@ -361,7 +368,7 @@ fn keep_behind<F: DatabaseFolder>(
 }
 
 /// Removes the note of the last closing, if there is one.
-fn forget_closing<F: DatabaseFolder>(folder: &mut F, there: &Inventory) -> Result<(), OpenFault>
+fn forget_closing<F: DatabaseFolder>(folder: &mut F, there: &Inventory) -> Result<(), ChangeFault>
     requires { F.is_claimed folder.old }
     ensures others { OnOk result
         (Changes (KeepsOthers CLOSED.now) (F.entries folder.old) (F.entries folder.new)) }
@@ -375,7 +382,7 @@ fn forget_closing<F: DatabaseFolder>(folder: &mut F, there: &Inventory) -> Resul
 }
 
 /// Stores the log again, and has it alone last on its file.
-fn keep_front<D: Disk + Drop>(found: &mut FoundLog<FileLog<D>>) -> Result<(), OpenFault>
+fn keep_front<D: Disk + Drop>(found: &mut FoundLog<FileLog<D>>) -> Result<(), ChangeFault>
     ensures front { found.new.front ≡ found.old.front }
     ensures lasting { OnOk result (LastsOnFile found.new.front.log found.new.device) }
     ensures alone { OnOk result
@@ -384,7 +391,7 @@ fn keep_front<D: Disk + Drop>(found: &mut FoundLog<FileLog<D>>) -> Result<(), Op
 {
     match found.keep_front() {
         Ok(()) => Ok(()),
-        Err(_) => Err(OpenFault::System(Place::Log, code_of(found.device.error()))),
+        Err(_) => Err(ChangeFault::System(Place::Log, code_of(found.device.error()))),
     }
 }
 
@@ -405,7 +412,7 @@ fn go_on<F: DatabaseFolder>(
     call: &OpenCall<'_>,
     found: FoundLog<FileLog<F::LogDisk>>,
     beside: (Others, DatabaseName),
-) -> Result<Reopened<F::Volume, F::LogDisk>, OpenFault>
+) -> Result<Reopened<F::Volume, F::LogDisk>, ChangeFault>
     requires frames { IsFrameCount call.now.frames }
     requires lasting { LastsOnFile found.front.log found.device }
     requires claimed { F.is_claimed folder.old }
@@ -480,7 +487,7 @@ impl Facts {
 fn restart_on<D: Disk + Drop>(
     alloc: Global,
     found: FoundLog<FileLog<D>>,
-) -> Result<(Restarted, FileLog<D>), OpenFault>
+) -> Result<(Restarted, FileLog<D>), ChangeFault>
     requires lasting { LastsOnFile found.front.log found.device }
     ensures log { IfOk result (λ it. it.0.log ≡ undone_log found.front.log) }
     ensures copies { IfOk result (λ it. it.0.copies ≡ []) }
@@ -495,7 +502,7 @@ fn restart_on<D: Disk + Drop>(
     drop(bytes);
     match restart(alloc, front, device) {
         Ok(it) => Ok(it),
-        Err((fault, device)) => Err(OpenFault::Restart(fault, code_of(device.error()))),
+        Err((fault, device)) => Err(ChangeFault::Restart(fault, code_of(device.error()))),
     }
 }
 
@@ -507,7 +514,7 @@ fn equip<F: DatabaseFolder>(
     restarted: &mut Restarted,
     end: Lsn,
     copies: Vec<CopyFile>,
-) -> Result<(F::Volume, Vec<u32>), OpenFault>
+) -> Result<(F::Volume, Vec<u32>), ChangeFault>
     requires counted { IsPageCount (page_count restarted.old.log) }
     requires claimed { F.is_claimed folder.old }
     ensures log { restarted.new.log ≡ restarted.old.log }

@@ -1,5 +1,6 @@
 //! Lines for a person on standard error.
 
+use crate::change_fault::ChangeFault;
 use crate::evidence::Loss;
 use crate::fault::OpenFault;
 use crate::place::Place;
@@ -17,6 +18,15 @@ use std::alloc::Global;
 use std::fmt::Display;
 use std::io;
 use system_files::{Escaped, Notes};
+
+// What is told of faults that an opening may meet when it looks, and when it changes a folder.
+const NO_FILE: &str = "this is no regular file";
+
+const LINK_TO_NOTHING: &str = "this is a link that leads nowhere";
+
+const LOG_OPEN: &str = "another one has this log open";
+
+const NO_MEMORY: &str = "there is not enough memory to open it";
 
 /// Tells on standard error what befalls a folder.
 #[derive(Clone, Copy)]
@@ -154,14 +164,30 @@ impl<'a> Teller<'a> {
             OpenFault::BadManifest(why) => self.tell_bad_manifest(why),
             OpenFault::NoName(code) => self.tell_unnamed(*code),
             OpenFault::LogLost(place) => self.tell(*place, &"this is there, but no log"),
-            OpenFault::NotAside(why) => match notes.error() {
+            OpenFault::Restart(RestartFault::LogFault) => self.tell_system(Place::Log, None),
+            OpenFault::Change(why) => self.tell_change(why, notes),
+            fault => self.tell_refused(fault),
+        }
+    }
+
+    /// The same of a change of the folder that failed.
+    fn tell_change(&self, fault: &ChangeFault, notes: &Notes) {
+        match fault {
+            ChangeFault::System(place, code) => self.tell_system(*place, *code),
+            ChangeFault::NoFile(place) => self.tell(*place, &NO_FILE),
+            ChangeFault::LinkToNothing => self.tell(Place::Log, &LINK_TO_NOTHING),
+            ChangeFault::LogOpen => self.tell(Place::Log, &LOG_OPEN),
+            ChangeFault::NotAside(why) => match notes.error() {
                 Some(error) => self.tell_not_aside(&error),
                 None => self.tell_not_aside(why),
             },
-            OpenFault::Restart(RestartFault::LogFault, code) | OpenFault::NoHeader(code) => {
+            ChangeFault::Restart(RestartFault::LogFault, code) | ChangeFault::NoHeader(code) => {
                 self.tell_system(Place::Log, *code);
             }
-            fault => self.tell_refused(fault),
+            ChangeFault::OutOfMemory | ChangeFault::Restart(RestartFault::OutOfMemory, _) => {
+                self.tell(Place::Folder, &NO_MEMORY);
+            }
+            ChangeFault::Restart(RestartFault::LogFull, _) => {}
         }
     }
 
@@ -175,9 +201,9 @@ impl<'a> Teller<'a> {
     /// The same of what stands in a folder and is refused.
     fn tell_refused(&self, fault: &OpenFault) {
         match fault {
-            OpenFault::NoFile(place) => self.tell(*place, &"this is no regular file"),
-            OpenFault::LinkToNothing => self.tell(Place::Log, &"this is a link that leads nowhere"),
-            OpenFault::LogOpen => self.tell(Place::Log, &"another one has this log open"),
+            OpenFault::NoFile(place) => self.tell(*place, &NO_FILE),
+            OpenFault::LinkToNothing => self.tell(Place::Log, &LINK_TO_NOTHING),
+            OpenFault::LogOpen => self.tell(Place::Log, &LOG_OPEN),
             OpenFault::TooLong(count) => {
                 self.tell(
                     Place::Log,
@@ -225,8 +251,8 @@ impl<'a> Teller<'a> {
             }
             OpenFault::OutOfMemory
             | OpenFault::Found(FoundFault::OutOfMemory)
-            | OpenFault::Restart(RestartFault::OutOfMemory, _) => {
-                self.tell(Place::Folder, &"there is not enough memory to open it");
+            | OpenFault::Restart(RestartFault::OutOfMemory) => {
+                self.tell(Place::Folder, &NO_MEMORY);
             }
             _ => {}
         }

@@ -2,6 +2,7 @@
 
 ghost use Rattle.std.specs.Prelude.{◌≡◌, IfOk};
 
+use crate::change_fault::ChangeFault;
 use crate::database_folder::{DatabaseFolder, Standing, VolumeFault};
 use crate::fault::OpenFault;
 use crate::place::Place;
@@ -36,14 +37,14 @@ fn begins_as_volume(bytes: &[u8]) -> bool {
 pub(crate) fn volume_of<F: DatabaseFolder>(
     folder: &mut F,
     pages: MemStore,
-) -> Result<F::Volume, OpenFault>
+) -> Result<F::Volume, ChangeFault>
     requires { F.is_claimed folder.old }
     ensures pages { IfOk result (λ volume. F.Volume.stored volume ≡ pages) }
     ensures claimed { F.is_claimed folder.new }
 {
     match folder.make_volume(pages) {
         Ok(volume) => Ok(volume),
-        Err(VolumeFault::NoFile) => Err(OpenFault::NoFile(Place::Volume)),
-        Err(VolumeFault::System(error)) => Err(OpenFault::of(Place::Volume, &error)),
+        Err(VolumeFault::NoFile) => Err(ChangeFault::NoFile(Place::Volume)),
+        Err(VolumeFault::System(error)) => Err(ChangeFault::of(Place::Volume, &error)),
     }
 }
