@@ -6,14 +6,14 @@ use Rattle.std.specs.List.{All}
 use Rattle.std.proofs.lemmas.List.Elements.{All-more, All-nil, All-weaker}
 use Rattle.manifest.specs.Entries.{Listed, Noted, file_of}
 use Rattle.manifest.specs.Text.{manifest_text}
-use Rattle.saved_files.specs.Folder.{Changes, Entries, FolderEntry, IsSame, KeepsBeside, KeepsOthers, Puts, PutsOrKeeps}
-use Rattle.saved_files.specs.Folder.{absent, stored, unsynced}
+use Rattle.saved_files.specs.Folder.{Changes, Entries, FolderEntry, IsSame, KeepsBeside, KeepsOthers, Puts}
+use Rattle.saved_files.specs.Folder.{HasNewOrOld, PutsOrKeeps, absent, stored, unsynced}
 use Rattle.saved_files.specs.Saved.{name_of}
 use Rattle.saved_files.specs.declared.saved_name.SavedName.TheVariants as saved
 use Rattle.open_database.specs.Backups.{AddsCopies, AddsFiles, AreBackedUp, FillsCopies, FillsCopy, IsBackedUp, IsBackup}
 use Rattle.open_database.specs.Backups.{IsBeginningOf, IsCopyOf, IsFilled, IsOfSame, IsUnfinished, KeepsBut}
 use Rattle.open_database.specs.Backups.{KeepsFinished, KeepsOtherFiles, KeepsTheRest, NotesCopies, NotesOnly}
-use Rattle.open_database.specs.Backups.{PutsManifestLast, UnlessUnsynced}
+use Rattle.open_database.specs.Backups.{IsOldOrFirst, KeepsOrPuts, PutsManifestLast, UnlessUnsynced}
 use Rattle.open_database.specs.DatabaseFolder.{HasBytes, Reads, ReadsIn}
 use Rattle.open_database.specs.Kept.{Names}
 use Rattle.open_database.proofs.SecondNames.{beside_unfinished, by_test, copy_apart, copy_finished, copy_starts}
@@ -105,6 +105,11 @@ removed name a b unfinished = so a b (λ old new kept n whole.
 pub finished_more : (a b c : Option Entries) → Changes KeepsFinished a b → Changes KeepsFinished b c
     → Changes KeepsFinished a c
 finished_more a b c = then a b c (λ old mid new p q n whole. q n whole ∙ p n whole)
+
+-- the name has the new file, or what it had
+pub left_either : (name : List ℕ) (fits : List ℕ → Type 0) (a b : Option Entries) → Changes (PutsOrKeeps name fits) a b
+    → Changes (HasNewOrOld name fits) a b
+left_either name fits a b = so a b (λ old new left. left.either)
 
 -- nothing is added
 pub adds_none : (a b : Option Entries) → Changes IsSame a b → Changes AddsCopies a b
@@ -467,12 +472,90 @@ pub backup_cleared : (first : Option Entries) (ids database : List ℕ) (a b c :
 backup_cleared first ids database a b c = then a b c (λ old mid new kept it.
     backup_since first ids database old mid new kept it)
 
+-- ---- the log and the master record, however it ends
+
+old_still : (first : Option Entries) (n : List ℕ) (old mid new : Entries) → IsOldOrFirst first n old mid
+    → new n ≡ mid n → IsOldOrFirst first n old new
+old_still first n old mid new it same = elim it [
+  | inl is ↦ inl (same ∙ is)
+  | inr put ↦ inr (put.0, put.1, same ∙ put.2)
+]
+
+old_since : (first : Option Entries) (n : List ℕ) (old mid new : Entries) → mid n ≡ old n
+    → IsOldOrFirst first n mid new → IsOldOrFirst first n old new
+old_since first n old mid new same it = elim it [
+  | inl is ↦ inl (is ∙ same)
+  | inr put ↦ inr put
+]
+
+old_or_put : (first : Option Entries) (n bytes : List ℕ) (old new : Entries) → HasBytes first n bytes
+    → HasNewOrOld n (λ it. it ≡ bytes) old new → IsOldOrFirst first n old new
+old_or_put first n bytes old new read it = elim it [
+  | inl put ↦ inr (bytes, read, put.2 ∙ ap stored put.1)
+  | inr is ↦ inl is
+]
+
+-- the log is put, or it is not
+pub log_older : (first : Option Entries) (log : List ℕ) (a b : Option Entries) → HasBytes first (name_of saved.Log) log
+    → Changes (HasNewOrOld (name_of saved.Log) (λ it. it ≡ log)) a b → Changes (KeepsBut (name_of saved.Log)) a b
+    → Changes (KeepsOrPuts first) a b
+log_older first log a b read = both a b (λ old new either kept. record {
+  log = old_or_put first (name_of saved.Log) log old new read either;
+  master = inl (kept (name_of saved.Master) (λ same. log_master (sym same)) master_finished);
+})
+
+-- and then copies are
+pub copies_older : (first : Option Entries) (a b c : Option Entries) → Changes (KeepsOrPuts first) a b
+    → Changes AddsCopies b c → Changes (KeepsOrPuts first) a c
+copies_older first a b c = then a b c (λ old mid new it adds. record {
+  log = old_still first (name_of saved.Log) old mid new it.log
+      (elim (adds (name_of saved.Log) log_finished) [ inl is ↦ is | inr none ↦ absurd (log_no_copy none.1) ]);
+  master = old_still first (name_of saved.Master) old mid new it.master
+      (elim (adds (name_of saved.Master) master_finished) [ inl is ↦ is | inr none ↦ absurd (master_no_copy none.1) ]);
+})
+
+-- and then the master record, or it is not
+pub master_older : (first : Option Entries) (log master : List ℕ) (a b c end : Option Entries)
+    → HasBytes first (name_of saved.Log) log → HasBytes first (name_of saved.Master) master
+    → Changes (HasNewOrOld (name_of saved.Log) (λ it. it ≡ log)) a b → Changes (KeepsBut (name_of saved.Log)) a b
+    → Changes AddsCopies b c → Changes (HasNewOrOld (name_of saved.Master) (λ it. it ≡ master)) c end
+    → Changes (KeepsBut (name_of saved.Master)) c end → Changes (KeepsOrPuts first) a end
+master_older first log master a b c end read read_master put kept adds put_master kept_master =
+    let First : Entries → Entries → Type 0 = λ old mid. KeepsOrPuts first old mid
+    × (mid (name_of saved.Master) ≡ old (name_of saved.Master)) in
+    let Last : Entries → Entries → Type 0 = λ mid new. HasNewOrOld (name_of saved.Master) (λ it. it ≡ master) mid new
+    × KeepsBut (name_of saved.Master) mid new in
+    then {P = First} {Q = Last} a c end (λ old mid new far last. record {
+      log = old_still first (name_of saved.Log) old mid new far.0.log
+          (last.1 (name_of saved.Log) log_master log_finished);
+      master = old_since first (name_of saved.Master) old mid new far.1
+          (old_or_put first (name_of saved.Master) master mid new read_master last.0);
+    })
+    (both {R = First} a c (λ old mid it same. (it, same))
+    (copies_older first a b c (log_older first log a b read put kept) adds)
+    (then {R = λ old mid. mid (name_of saved.Master) ≡ old (name_of saved.Master)} a b c (λ old mid new keeps more.
+    elim (more (name_of saved.Master) master_finished) [
+      | inl is ↦ is ∙ keeps (name_of saved.Master) (λ same. log_master (sym same)) master_finished
+      | inr none ↦ absurd (master_no_copy none.1)
+    ]) kept adds))
+    (both {R = Last} c end (λ mid new p q. (p, q)) put_master kept_master)
+
+-- and then the manifest, or it is not
+pub manifest_older : (first : Option Entries) (a b c : Option Entries) → Changes (KeepsOrPuts first) a b
+    → Changes (KeepsBut (codes "manifest")) b c → Changes (KeepsOrPuts first) a c
+manifest_older first a b c = then a b c (λ old mid new it kept. record {
+  log = old_still first (name_of saved.Log) old mid new it.log (kept (name_of saved.Log) log_manifest log_finished);
+  master = old_still first (name_of saved.Master) old mid new it.master
+      (kept (name_of saved.Master) master_manifest master_finished);
+})
+
 -- nothing was changed
 pub rest_same : (first : Option Entries) (ids database : List ℕ) (a b : Option Entries) → Changes IsSame a b
     → Changes (KeepsTheRest first ids database) a b
 rest_same first ids database a b = so a b (λ old new same. record {
   another = inl same;
   last = inl (same (codes "manifest"));
+  older = record { log = inl (same (name_of saved.Log)); master = inl (same (name_of saved.Master)) };
   others = λ n log master manifest whole some. same n;
 })
 
@@ -488,27 +571,39 @@ rest_cleared first log ids database a b c read same known kept =
     then {Q = SameCleared first log ids} a b c (λ old mid new is far. record {
       another = inr (log, read, still_same first log ids mid old (λ n whole. sym (is n)) far.0);
       last = inl (far.1 (codes "manifest") manifest_finished ∙ is (codes "manifest"));
+      older = record {
+        log = inl (far.1 (name_of saved.Log) log_finished ∙ is (name_of saved.Log));
+        master = inl (far.1 (name_of saved.Master) master_finished ∙ is (name_of saved.Master));
+      };
       others = λ n log master manifest whole some. far.1 n whole ∙ is n;
     }) same (given b c (λ mid new it far. (it, far)) known kept)
 
 -- and the files were put
 pub rest_filled : (first : Option Entries) (log ids database : List ℕ) (a b c d : Option Entries)
     → HasBytes first (name_of saved.Log) log → Changes IsSame a b → IfSome b (IsOfSame first log ids)
-    → Changes KeepsFinished b c → Changes (PutsManifestLast first ids database) c d → Changes KeepsOtherFiles c d
+    → Changes KeepsFinished b c → Changes (PutsManifestLast first ids database) c d → Changes (KeepsOrPuts first) c d
+    → Changes KeepsOtherFiles c d
     → Changes (KeepsTheRest first ids database) a d
-rest_filled first log ids database a b c d read same known kept last others =
+rest_filled first log ids database a b c d read same known kept last older others =
     then {P = SameCleared first log ids}
-    {Q = λ mid new. PutsManifestLast first ids database mid new × KeepsOtherFiles mid new} a c d (λ old mid new far after. record {
+    {Q = λ mid new. PutsManifestLast first ids database mid new × KeepsOrPuts first mid new
+    × KeepsOtherFiles mid new} a c d (λ old mid new far after. record {
       another = inr (log, read, far.0);
       last = elim after.0 [
         | inl stays ↦ inl (stays ∙ far.1 (codes "manifest") manifest_finished)
         | inr it ↦ inr (backup_since first ids database old mid new far.1 it)
       ];
+      older = record {
+        log = old_since first (name_of saved.Log) old mid new (far.1 (name_of saved.Log) log_finished) after.1.log;
+        master = old_since first (name_of saved.Master) old mid new (far.1 (name_of saved.Master) master_finished)
+            after.1.master;
+      };
       others = λ n log master manifest whole some.
           let before = far.1 n whole in
-          after.1 n log master manifest whole (λ none. some (sym before ∙ none)) ∙ before;
+          after.2 n log master manifest whole (λ none. some (sym before ∙ none)) ∙ before;
     })
     (then {Q = SameCleared first log ids} a b c (λ old mid new is far.
     (still_same first log ids mid old (λ n whole. sym (is n)) far.0, λ n whole. far.1 n whole ∙ is n))
     same (given b c (λ mid new it far. (it, far)) known kept))
-    (both c d (λ mid new p q. (p, q)) last others)
+    (both c d (λ mid new p q. (p, q.0, q.1)) last
+    (both {R = λ mid new. KeepsOrPuts first mid new × KeepsOtherFiles mid new} c d (λ mid new p q. (p, q)) older others))

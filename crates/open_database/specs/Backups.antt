@@ -179,11 +179,22 @@ abbrev pub KeepsOtherFiles : Entries → Entries → Type 0
 KeepsOtherFiles old new = (n : List ℕ) → n ≢ name_of saved.Log → n ≢ name_of saved.Master
     → n ≢ codes "manifest" → ¬ IsUnfinished n → old n ≢ absent → new n ≡ old n
 
+-- the file of this name is as it was, or it is the first folder's, whole
+abbrev pub IsOldOrFirst : Option Entries → List ℕ → Entries → Entries → Type 0
+IsOldOrFirst first name old new = (new name ≡ old name)
+    ⊎ ((bytes : List ℕ) × HasBytes first name bytes × (new name ≡ stored bytes))
+
+-- so is the log, and so is the master record
+pub record KeepsOrPuts (first : Option Entries) (old new : Entries) : Type 0 where
+  pub log : IsOldOrFirst first (name_of saved.Log) old new
+  pub master : IsOldOrFirst first (name_of saved.Master) old new
+
 -- so it is with all that stood there
 pub record KeepsTheRest (first : Option Entries) (ids database : List ℕ) (old new : Entries)
     : Type 0 where
   pub another : KeepsAnother first ids old new
   pub last : PutsManifestLast first ids database old new
+  pub older : KeepsOrPuts first old new
   pub others : KeepsOtherFiles old new
 
 -- ---- the steps of a backup

@@ -2,13 +2,13 @@
 
 ghost use Rattle.std.specs.Prelude.{◌≡◌, IfErr, IfOk, IfSome, IsSomeAnd, OnOk};
 ghost use Rattle.std.specs.Io.{StartsWith};
-ghost use Rattle.std.specs.List.{All};
-ghost use Rattle.saved_files.specs.Folder.{Changes, KeepsOthers, Puts};
+ghost use Rattle.saved_files.specs.Folder.{Changes, HasNewOrOld, KeepsOthers, Puts};
 ghost use Rattle.saved_files.specs.Saved.{name_of};
 ghost use Rattle.saved_files.specs.declared.saved_name.SavedName.TheVariants as saved;
 ghost use Rattle.open_database.specs.Backups.{AddsCopies, AddsFiles, AreBackedUp, FillsCopies};
 ghost use Rattle.open_database.specs.Backups.{FillsCopy, IsBackup, IsCopyOf, IsOfSame, KeepsBut};
-ghost use Rattle.open_database.specs.Backups.{KeepsFinished, KeepsOtherFiles, KeepsTheRest};
+ghost use Rattle.open_database.specs.Backups.{KeepsFinished, KeepsOrPuts, KeepsOtherFiles};
+ghost use Rattle.open_database.specs.Backups.{KeepsTheRest};
 ghost use Rattle.open_database.specs.Backups.{NotesCopies, NotesOnly, PutsManifestLast};
 ghost use Rattle.open_database.specs.DatabaseFolder.{HasBytes, Reads};
 ghost use Rattle.open_database.specs.Kept.{Names};
@@ -222,6 +222,8 @@ fn fill<O: DatabaseFolder, F: DatabaseFolder>(
     ensures stored { OnOk result (F.is_stored folder.new) }
     ensures last { Changes (PutsManifestLast (O.entries from.now) copies.now manifest.database)
         (F.entries folder.old) (F.entries folder.new) }
+    ensures older { Changes (KeepsOrPuts (O.entries from.now))
+        (F.entries folder.old) (F.entries folder.new) }
     ensures others { Changes KeepsOtherFiles (F.entries folder.old) (F.entries folder.new) }
     ensures claimed { F.is_claimed folder.new }
 {
@@ -249,6 +251,8 @@ fn put_files<O: DatabaseFolder, F: DatabaseFolder>(
         (AreBackedUp (O.entries from.now) copies.now manifest.new.entries)
         (F.entries folder.old) (F.entries folder.new)) }
     ensures database { OnOk result (manifest.new.database ≡ manifest.old.database) }
+    ensures older { Changes (KeepsOrPuts (O.entries from.now))
+        (F.entries folder.old) (F.entries folder.new) }
     ensures others { Changes AddsFiles (F.entries folder.old) (F.entries folder.new) }
     ensures claimed { F.is_claimed folder.new }
 {
@@ -324,6 +328,8 @@ fn put<F: Folder>(
         (NotesOnly (name_of name) manifest.old.entries manifest.new.entries) }
     ensures database { OnOk result (manifest.new.database ≡ manifest.old.database) }
     ensures stored { OnOk result (F.is_stored folder.new) }
+    ensures either { Changes (HasNewOrOld (name_of name) (λ it. it ≡ bytes.now))
+        (F.entries folder.old) (F.entries folder.new) }
     ensures others { Changes (KeepsBut (name_of name))
         (F.entries folder.old) (F.entries folder.new) }
     ensures claimed { F.is_claimed folder.new }

@@ -1,4 +1,5 @@
-use Rattle.open_database.proofs.SecondFolders.{is_backup, last_left, last_none, last_put}
+use Rattle.std.specs.Prelude.{codes}
+use Rattle.open_database.proofs.SecondFolders.{is_backup, kept_left, kept_put, last_left, last_none, last_put, manifest_older}
 use Rattle.open_database.proofs.second_folder.fill.Goals as goal
 
 pub returns-in_err-put_files-clause-last : goal.returns-in_err-put_files-clause-last
@@ -24,3 +25,17 @@ returns-clause-last g c =
     c.put_files.new.manifest (g.F.Folder.entries c.args.folder.now) (g.F.Folder.entries c.put_files.new.folder)
     (g.F.Folder.entries c.put_text.new.folder) c.in_ok-put_files.ensures.database c.in_ok-put_files.ensures.put
     c.put_files.ensures.others c.in-Err.ensures.left
+
+pub returns-in-Ok-clause-older : goal.returns-in-Ok-clause-older
+returns-in-Ok-clause-older g c =
+    let mid = g.F.Folder.entries c.put_files.new.folder in
+    let new = g.F.Folder.entries c.put_text.new.folder in
+    manifest_older (g.O.Folder.entries c.args.from.now) (g.F.Folder.entries c.args.folder.now) mid new
+    c.put_files.ensures.older (kept_put (codes "manifest") _ mid new c.in-Ok.ensures.changed)
+
+pub returns-clause-older : goal.returns-clause-older
+returns-clause-older g c =
+    let mid = g.F.Folder.entries c.put_files.new.folder in
+    let new = g.F.Folder.entries c.put_text.new.folder in
+    manifest_older (g.O.Folder.entries c.args.from.now) (g.F.Folder.entries c.args.folder.now) mid new
+    c.put_files.ensures.older (kept_left (codes "manifest") _ mid new c.in-Err.ensures.left)

@@ -45,4 +45,4 @@ returns-clause-rest g c =
     (subst (HasBytes first (name_of saved.Log)) (sym c.deref.ensures.value) c.in_ok-log.ensures)
     c.claim_or_wait.ensures.same c.in_ok-check_all.ensures c.clear.ensures.kept
     (subst (λ (name : List ℕ). Changes (PutsManifestLast first c.args.copies.now name) mid new)
-    c.in_ok-manifest.ensures c.fill.ensures.last) c.fill.ensures.others
+    c.in_ok-manifest.ensures c.fill.ensures.last) c.fill.ensures.older c.fill.ensures.others

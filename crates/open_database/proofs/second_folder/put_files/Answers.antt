@@ -2,7 +2,7 @@ use Rattle.std.proofs.Common.{subst, sym}
 use Rattle.saved_files.specs.Saved.{name_of}
 use Rattle.saved_files.specs.declared.saved_name.SavedName.TheVariants as saved
 use Rattle.open_database.specs.DatabaseFolder.{HasBytes}
-use Rattle.open_database.proofs.SecondFolders.{all_put, on_ok_all}
+use Rattle.open_database.proofs.SecondFolders.{all_put, copies_older, log_older, master_older, on_ok_all}
 use Rattle.open_database.proofs.second_folder.put_files.Goals as goal
 
 pub returns-clause-put : goal.returns-clause-put
@@ -18,3 +18,37 @@ returns-clause-put g c =
     c.in_ok-put_copies.ensures.noted noted named (entries c.args.folder.now) (entries c.put.new.folder)
     (entries c.put_copies.new.folder) (entries c.put-2.new.folder) c.requires.same c.in_ok-put.ensures.put
     c.in_ok-put_copies.ensures.put put) c.put-2.ensures.put c.put-2.ensures.noted c.put-2.ensures.named
+
+pub returns-in_err-put-clause-older : goal.returns-in_err-put-clause-older
+returns-in_err-put-clause-older g c =
+    log_older (g.O.Folder.entries c.args.from.now) c.args.log.now (g.F.Folder.entries c.args.folder.now)
+    (g.F.Folder.entries c.put.new.folder) c.requires.read c.put.ensures.either c.put.ensures.others
+
+pub returns-in_err-put_copies-clause-older : goal.returns-in_err-put_copies-clause-older
+returns-in_err-put_copies-clause-older g c =
+    let first = g.O.Folder.entries c.args.from.now in
+    let old = g.F.Folder.entries c.args.folder.now in
+    let mid = g.F.Folder.entries c.put.new.folder in
+    copies_older first old mid (g.F.Folder.entries c.put_copies.new.folder)
+    (log_older first c.args.log.now old mid c.requires.read c.put.ensures.either c.put.ensures.others)
+    c.put_copies.ensures.others
+
+pub returns-in_err-master-clause-older : goal.returns-in_err-master-clause-older
+returns-in_err-master-clause-older g c =
+    let first = g.O.Folder.entries c.args.from.now in
+    let old = g.F.Folder.entries c.args.folder.now in
+    let mid = g.F.Folder.entries c.put.new.folder in
+    copies_older first old mid (g.F.Folder.entries c.put_copies.new.folder)
+    (log_older first c.args.log.now old mid c.requires.read c.put.ensures.either c.put.ensures.others)
+    c.put_copies.ensures.others
+
+pub returns-clause-older : goal.returns-clause-older
+returns-clause-older g c =
+    let first = g.O.Folder.entries c.args.from.now in
+    let master = c.deref.result.now in
+    let read : HasBytes first (name_of saved.Master) master =
+    subst (HasBytes first (name_of saved.Master)) (sym c.deref.ensures.value) c.in_ok-master.ensures in
+    master_older first c.args.log.now master (g.F.Folder.entries c.args.folder.now)
+    (g.F.Folder.entries c.put.new.folder) (g.F.Folder.entries c.put_copies.new.folder)
+    (g.F.Folder.entries c.put-2.new.folder) c.requires.read read c.put.ensures.either c.put.ensures.others
+    c.put_copies.ensures.others c.put-2.ensures.either c.put-2.ensures.others
