@@ -2,7 +2,11 @@ mod Chains
 mod CopyCalls
 mod CutLives
 mod Forgotten
+mod Founds
+mod Inventories
 mod LogThere
+mod Notes
+mod Numbers
 mod PowerCuts
 mod Puts
 mod Reopened

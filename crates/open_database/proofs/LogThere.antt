@@ -1,9 +1,18 @@
 -- The log that stands in a folder.
-use Rattle.std.proofs.Common.{◌≡◌, ◌∙◌, ℕ, List, [], ap, arith, inl, inr, length, subst, sym, take}
+use Rattle.std.proofs.Common.{◌≡◌, ◌∙◌, ℕ, Bool, List, [], ap, arith, inl, inr, length, slice_index_or, subst, sym, take}
 use Rattle.std.specs.Prelude.{codes, Err, IfOk, None, Ok, Option, Result, Some}
 use Rattle.std.proofs.lemmas.List.{take_all}
 use Rattle.engine_rules.specs.EngineState.{EngineState}
+use Rattle.log_store.specs.Master.{SpellsMaster}
+use Rattle.log_store.specs.declared.master.Master.{Master}
+use Rattle.manifest.specs.Entries.{Listed}
 use Rattle.saved_files.specs.Folder.{Changes, Entries, FolderEntry, IsSame, absent, stored, unsynced}
+use Rattle.saved_files.specs.Saved.{name_of}
+use Rattle.saved_files.specs.declared.saved_name.SavedName.TheVariants as saved
+use Rattle.open_database.specs.Closed.{SpellsNote}
+use Rattle.open_database.specs.Found.{AreFoundIn, IsCopyAt, IsFoundAt, SpellsManifest}
+use Rattle.open_database.specs.declared.closed_note.ClosedNote.{ClosedNote}
+use Rattle.open_database.specs.declared.found_copies.CopyFile.{CopyFile}
 use Rattle.open_database.specs.DatabaseFolder.{AreOf, AreFirstOf, HasLength, HasLogBytes, HasLogOf, IsWithoutLog, IsLogIn}
 use Rattle.open_database.specs.Opened.{Begins}
 use Rattle.open_database.specs.declared.first_line.FirstLine.{FirstLine}
@@ -56,11 +65,27 @@ log_same (Some old) None bytes same there = absurd same
 log_same (Some old) (Some mid) bytes same there =
     subst (λ (e : FolderEntry). AreOf e (Some bytes)) (same (codes "log")) there
 
-pub begins_same : (old mid : Option Entries) (log : Option ℕ) (ids : List ℕ) (told : Option ℕ) (frames : ℕ)
-    (first : FirstLine) (engine : EngineState) → Changes IsSame old mid → Begins mid log ids told frames first engine
-    → Begins old log ids told frames first engine
-begins_same old mid None ids told frames first engine same begins = (no_log_same old mid same begins.0, begins.1)
-begins_same old mid (Some len) ids told frames first engine same begins = elim begins [
+pub found_same : (old mid : Option Entries) (closing : Option ClosedNote) (manifest : Option Listed)
+    (master : Option Master) (files : List CopyFile) → Changes IsSame old mid
+    → AreFoundIn mid closing manifest master files → AreFoundIn old closing manifest master files
+found_same None mid closing manifest master files same found = tt
+found_same (Some old) None closing manifest master files same found = absurd same
+found_same (Some old) (Some mid) closing manifest master files same found = record {
+  closed = subst (λ (e : FolderEntry). IsFoundAt SpellsNote e closing) (same (codes "closed")) found.closed;
+  listed = subst (λ (e : FolderEntry). IsFoundAt SpellsManifest e manifest) (same (codes "manifest")) found.listed;
+  named = subst (λ (e : FolderEntry). IsFoundAt SpellsMaster e master) (same (codes "master")) found.named;
+  copied = λ k d lt.
+      let file = slice_index_or files k d in
+      subst (λ (e : FolderEntry). IsCopyAt e file.found) (same (name_of (saved.Copy file.id))) (found.copied k d lt);
+  all = λ id fits had. found.all id fits (λ none. had (sym (same (name_of (saved.Copy id))) ∙ none));
+}
+
+pub begins_same : (old mid : Option Entries) (is_salvage : Bool) (log : Option ℕ) (ids : List ℕ) (told : Option ℕ)
+    (frames : ℕ) (first : FirstLine) (engine : EngineState) → Changes IsSame old mid
+    → Begins mid is_salvage log ids told frames first engine → Begins old is_salvage log ids told frames first engine
+begins_same old mid is_salvage None ids told frames first engine same begins =
+    (no_log_same old mid same begins.0, begins.1)
+begins_same old mid is_salvage (Some len) ids told frames first engine same begins = elim begins [
   | inl new ↦ inl (log_of_same old mid len same new.0, new.1, new.2)
   | inr it ↦ inr (record {
     bytes = it.bytes;
@@ -71,6 +96,11 @@ begins_same old mid (Some len) ids told frames first engine same begins = elim b
     front = it.front;
     files = it.files;
     heard = it.heard;
+    note = it.note;
+    manifest = it.manifest;
+    master = it.master;
+    found = found_same old mid it.note it.manifest it.master it.files same it.found;
+    lacks = it.lacks;
     goes_on = it.goes_on;
     told = it.told;
   })
@@ -78,9 +108,9 @@ begins_same old mid (Some len) ids told frames first engine same begins = elim b
 
 -- it was opened behind a claim that left the folder as it was
 pub opened_in : {T E : Type 0} (r : Result T E) (first : T → FirstLine) (state : T → EngineState)
-    (old mid : Option Entries) (log : Option ℕ) (ids : List ℕ) (told : Option ℕ) (frames : ℕ) → Changes IsSame old mid
-    → IfOk r (λ it. Begins mid log ids told frames (first it) (state it))
-    → IfOk r (λ it. (l : Option ℕ) × (is : List ℕ) × Begins old l is told frames (first it) (state it))
-opened_in (Ok it) first state old mid log ids told frames same begins =
-    (log, ids, begins_same old mid log ids told frames (first it) (state it) same begins)
-opened_in (Err why) first state old mid log ids told frames same begins = tt
+    (old mid : Option Entries) (is_salvage : Bool) (log : Option ℕ) (ids : List ℕ) (told : Option ℕ) (frames : ℕ)
+    → Changes IsSame old mid → IfOk r (λ it. Begins mid is_salvage log ids told frames (first it) (state it))
+    → IfOk r (λ it. (l : Option ℕ) × (is : List ℕ) × Begins old is_salvage l is told frames (first it) (state it))
+opened_in (Ok it) first state old mid is_salvage log ids told frames same begins =
+    (log, ids, begins_same old mid is_salvage log ids told frames (first it) (state it) same begins)
+opened_in (Err why) first state old mid is_salvage log ids told frames same begins = tt

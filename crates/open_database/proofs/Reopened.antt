@@ -1,9 +1,11 @@
 -- A database that is opened again.
-use Rattle.std.proofs.Common.{◌≡◌, ℕ, List, [], ap, length, subst, sym, ◌∙◌}
+use Rattle.std.proofs.Common.{◌≡◌, ℕ, Bool, List, [], ap, false, length, map, subst, sym, ◌∙◌}
+use Rattle.std.specs.Prelude.{Option}
 use Rattle.std.proofs.lemmas.List.{length-map}
 use Rattle.page_core.specs.declared.page.Page.{Page}
 use Rattle.page_core.specs.Volume.{AreNumbered}
-use Rattle.log_front.specs.Front.{end_of}
+use Rattle.log_front.specs.Front.{IsFrontOf, end_of}
+use Rattle.log_front.specs.declared.cut.Cut.{Cut}
 use Rattle.log_records.specs.Log.{IsLog, IsPageCount, Log, page_count}
 use Rattle.log_records.proofs.Public.{length-redo_all, numbered-redo_all}
 use Rattle.log_records.proofs.Public.{page_count-is_count}
@@ -11,13 +13,20 @@ use Rattle.log_rules.specs.Table.{Table, entry_of}
 use Rattle.log_rules.specs.Transactions.{open_in}
 use Rattle.log_store.specs.Analysis.{IsAnalysisOf}
 use Rattle.log_store.specs.declared.analysis.Analysis.{Analysis}
+use Rattle.log_store.specs.declared.master.Master.{Master}
 use Rattle.loser_undo.proofs.Public.{undone_count}
+use Rattle.manifest.specs.Entries.{Listed}
+use Rattle.saved_files.specs.Folder.{Entries}
 use Rattle.engine_restart.specs.Lives.{GoesOnFrom}
 use Rattle.engine_restart.specs.Restart.{IsRestarted, RestartedView, undone_log}
 use Rattle.engine_rules.specs.EngineState.{EngineState}
 use Rattle.open_database.specs.Copies.{TakesUp}
+use Rattle.open_database.specs.DatabaseFolder.{HasLogBytes}
+use Rattle.open_database.specs.Evidence.{LacksNothing}
 use Rattle.open_database.specs.FirstLine.{told_of}
-use Rattle.open_database.specs.Opened.{GoesOnWith}
+use Rattle.open_database.specs.Found.{AreFoundIn}
+use Rattle.open_database.specs.Opened.{GoesOnFromFile, GoesOnWith}
+use Rattle.open_database.specs.declared.closed_note.ClosedNote.{ClosedNote}
 use Rattle.open_database.specs.declared.first_line.FirstLine.{FirstLine}
 use Rattle.open_database.specs.declared.first_line.FirstLine.TheVariants.{Restarted}
 use Rattle.open_database.specs.declared.found_copies.CopyFile.{CopyFile}
@@ -63,3 +72,33 @@ pub told_is : (log : Log) (end open_there count : ℕ) (engine : EngineState) (f
 told_is log end open_there count engine first is ends are counted =
     is ∙ ap (λ (n : ℕ). Restarted n open_there count) ends ∙ ap (λ (n : ℕ). Restarted (end_of log) n count) are
     ∙ ap (λ (n : ℕ). Restarted (end_of log) (length (open_in log.records)) n) counted
+
+-- ---- all of it
+
+pub goes_on_from : (entries : Option Entries) (is_salvage : Bool) (count : ℕ) (ids : List ℕ) (first : FirstLine)
+    (engine : EngineState) (bytes : List ℕ) (log now : Log) (cut : Option Cut) (closing : Option ClosedNote)
+    (manifest : Option Listed) (master : Option Master) (files left : List CopyFile) → HasLogBytes entries bytes
+    → length bytes ≡ count → IsFrontOf bytes (record { log = log; cut = cut }) → map (λ file. file.id) files ≡ ids
+    → AreFoundIn entries closing manifest master files
+    → (is_salvage ≡ false → LacksNothing (end_of log) closing manifest master files bytes) → now ≡ log → left ≡ files
+    → GoesOnWith now left engine → first ≡ told_of now engine
+    → GoesOnFromFile entries is_salvage count ids first engine
+goes_on_from entries is_salvage count ids first engine bytes log now cut closing manifest master files left there all front heard found lacks same same_files goes_on told =
+    record {
+      bytes = bytes;
+      there = there;
+      all = all;
+      log = log;
+      cut = cut;
+      front = front;
+      files = files;
+      heard = heard;
+      note = closing;
+      manifest = manifest;
+      master = master;
+      found = found;
+      lacks = lacks;
+      goes_on = subst (λ (fs : List CopyFile). GoesOnWith log fs engine) same_files
+          (subst (λ (l : Log). GoesOnWith l left engine) same goes_on);
+      told = subst (λ (l : Log). first ≡ told_of l engine) same told;
+    }

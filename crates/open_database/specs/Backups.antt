@@ -77,7 +77,7 @@ pub record WasBackedUp (full : Bool) (told : Option ℕ) : Type 0 where
   pub ids : List ℕ
   pub first : FirstLine
   pub begun : EngineState
-  pub begins : Begins None log ids None MAX_PAGES first begun
+  pub begins : Begins None false log ids None MAX_PAGES first begun
   pub ended : EngineState
   pub backs_up : BacksUp full told begun ended
 

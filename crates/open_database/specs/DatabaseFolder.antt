@@ -1,6 +1,7 @@
 -- What the folder of a database tells of a name.
-use Rattle.std.specs.Prelude.{ℕ, ◌≡◌, ◌≢◌, Bool, true, false, codes, IfSome, length, List, None, Option, Some}
-use Rattle.std.specs.Prelude.{take}
+use Rattle.std.specs.Prelude.{ℕ, ◌≡◌, ◌≢◌, ◌↔◌, ◌≤◌, Bool, true, false, codes, IfSome, length, List, None}
+use Rattle.std.specs.Prelude.{Option, Some, take}
+use Rattle.std.specs.List.{Contains}
 use Rattle.saved_files.specs.Folder.{Entries, FolderEntry, absent, stored, unsynced}
 use Rattle.open_database.specs.declared.database_folder.Standing.{Standing}
 use Rattle.open_database.specs.declared.database_folder.Standing.TheVariants.{File, NoFile, Nothing}
@@ -12,6 +13,10 @@ Tells None name has = Unit {0}
 Tells (Some entries) name true = entries name ≢ absent
 Tells (Some entries) name false = entries name ≡ absent
 
+-- these names are those under which something stands, as far as that is known
+abbrev pub ListsAll : Option Entries → List (List ℕ) → Type 0
+ListsAll entries names = IfSome entries (λ it. (n : List ℕ) → it n ≢ absent ↔ Contains names n)
+
 -- these bytes are read of what stands there: those that are stored; of a file that was not synced it
 -- is not known which
 abbrev pub AreOf : FolderEntry → Option (List ℕ) → Type 0
@@ -19,10 +24,16 @@ AreOf absent bytes = ⊥
 AreOf unsynced bytes = Unit {0}
 AreOf (stored all) bytes = bytes ≡ Some all
 
+-- what stands there may be no regular file: no bytes are known to be stored of it
+abbrev pub MayBeNoFile : FolderEntry → Type 0
+MayBeNoFile absent = ⊥
+MayBeNoFile unsynced = Unit {0}
+MayBeNoFile (stored all) = ⊥
+
 -- what is given of a name, whose bytes are these, is what stands there
 abbrev pub OpensIn : {T : Type 0} → Standing T → (T → Option (List ℕ)) → FolderEntry → Type 0
 OpensIn Nothing bytes there = there ≡ absent
-OpensIn NoFile bytes there = Unit {0}
+OpensIn NoFile bytes there = MayBeNoFile there
 OpensIn (File it) bytes there = AreOf there (bytes it)
 
 -- so it is as far as that is known
@@ -42,6 +53,18 @@ ReadsIn (Some it) bytes there = AreOf there (Some (bytes it))
 -- so it is as far as that is known
 abbrev pub Reads : {T : Type 0} → Option T → (T → List ℕ) → Option Entries → List ℕ → Type 0
 Reads given bytes entries name = IfSome entries (λ it. ReadsIn given bytes (it name))
+
+-- so many bytes were read of what stands there: its first ones, as many as there is room for in these
+abbrev pub AreReadOf : FolderEntry → List ℕ → ℕ → Type 0
+AreReadOf absent bytes len = ⊥
+AreReadOf unsynced bytes len = Unit {0}
+AreReadOf (stored all) bytes len = take len bytes ≡ take (length bytes) all
+
+-- what is given of a name, with so many of its first bytes in these, is what stands there
+abbrev pub BeginsIn : Standing ℕ → List ℕ → FolderEntry → Type 0
+BeginsIn Nothing bytes there = there ≡ absent
+BeginsIn NoFile bytes there = MayBeNoFile there
+BeginsIn (File len) bytes there = (len ≤ length bytes) × AreReadOf there bytes len
 
 -- ---- the file of the log
 

@@ -6,6 +6,7 @@ pub mod Copies
 pub mod DatabaseFolder
 pub mod Evidence
 pub mod FirstLine
+pub mod Found
 pub mod Kept
 pub mod LeftOut
 pub mod MadeFiles

@@ -1,17 +1,18 @@
 //! The note of the log's end that a clean closing leaves.
 
-ghost use Rattle.std.specs.Prelude.{◌≡◌, ◌++◌, [], ◌∷◌, OnOk, decimal};
+ghost use Rattle.std.specs.Prelude.{◌≡◌, ◌++◌, [], ◌∷◌, IfOk, OnOk, decimal};
 ghost use Rattle.std.specs.Io.KnownBytes.{Appends};
 ghost use Rattle.saved_files.specs.FileFault.{Leaves};
 ghost use Rattle.saved_files.specs.Folder.{Changes, IsRemoved};
-ghost use Rattle.open_database.specs.Closed.{note_of};
+ghost use Rattle.open_database.specs.Closed.{SpellsNote, note_of};
+ghost use Rattle.open_database.specs.Found.{IsFoundIn, IsReadOf};
 
 use crate::change_fault::ChangeFault;
 use crate::database_folder::{DatabaseFolder, Standing};
 use crate::fault::OpenFault;
-use crate::names::CLOSED;
+use crate::names::{CLOSED, long_number_of};
 use crate::place::Place;
-use crate::whole_file::read_first;
+use crate::whole_file::{first_of, read_first};
 use page_core::{Lsn, write_out};
 use saved_files::{FileFault, Source};
 use std::alloc::Global;
@@ -47,10 +48,12 @@ impl Source for ClosedNote {
 }
 
 /// What the file of the note says: nothing where it is no note.
-pub(crate) fn read_note<F: DatabaseFolder>(folder: &F) -> Result<Option<ClosedNote>, OpenFault> {
+pub(crate) fn read_note<F: DatabaseFolder>(folder: &F) -> Result<Option<ClosedNote>, OpenFault>
+    ensures { IfOk result (IsFoundIn SpellsNote (F.entries folder.now) CLOSED.now) }
+{
     let mut bytes = [0; MOST_BYTES];
     match read_first(folder, CLOSED, &mut bytes) {
-        Ok(Standing::File(len)) => Ok(note_in(bytes.get(..len).unwrap_or(&[]))),
+        Ok(Standing::File(len)) => Ok(note_in(first_of(&bytes, len))),
         Ok(Standing::NoFile) => Err(OpenFault::NoFile(Place::Closed)),
         Ok(Standing::Nothing) => Err(OpenFault::absent(Place::Closed)),
         Err(error) => Err(OpenFault::of(Place::Closed, &error)),
@@ -58,15 +61,14 @@ pub(crate) fn read_note<F: DatabaseFolder>(folder: &F) -> Result<Option<ClosedNo
 }
 
 /// The note that these bytes are, if they are one.
-fn note_in(bytes: &[u8]) -> Option<ClosedNote> {
-    let text = std::str::from_utf8(bytes).ok()?;
-    let digits = text.strip_suffix('\n')?;
-    if digits.starts_with('0') || !digits.bytes().all(|byte| byte.is_ascii_digit()) {
+fn note_in(bytes: &[u8]) -> Option<ClosedNote>
+    ensures { IsReadOf SpellsNote bytes.now result }
+{
+    let Ok(text) = std::str::from_utf8(bytes) else {
         return None;
-    }
-    Some(ClosedNote {
-        end: Lsn(digits.parse().ok()?),
-    })
+    };
+    let end = long_number_of(text.strip_suffix('\n')?)?;
+    Some(ClosedNote { end: Lsn(end) })
 }
 
 /// Removes the note, and sees that its name is gone for certain.

@@ -1,6 +1,7 @@
 //! The folder of a database.
 
 ghost use Rattle.std.specs.Prelude.{ℕ, ◌≡◌, [], IfOk, List, OnErr, OnOk, Option, Some, length};
+ghost use Rattle.std.specs.Prelude.{map, string_bytes};
 ghost use Rattle.file_devices.specs.FileLog.{bytes_of};
 ghost use Rattle.saved_files.specs.Folder.{Changes, IsRemoved, IsSame, KeepsOthers};
 
@@ -57,7 +58,7 @@ impl From<io::Error> for VolumeFault {
 
 /// A folder in which the files of a database stand.
 pub trait DatabaseFolder: Folder {
-    ghost use Rattle.open_database.specs.DatabaseFolder.{AreFirstOf, Opens, OpensLog, Tells};
+    ghost use Rattle.open_database.specs.DatabaseFolder.{AreFirstOf, ListsAll, Opens, OpensLog, Tells};
 
     /// A file that is open to be read.
     type Reader: Read + Drop;
@@ -81,7 +82,9 @@ pub trait DatabaseFolder: Folder {
         ensures same { Changes IsSame (Self.entries self.old) (Self.entries self.new) };
 
     /// The names of all that stands there, in no order.
-    fn names(&self) -> io::Result<Vec<String>>;
+    fn names(&self) -> io::Result<Vec<String>>
+        ensures { IfOk result (λ names.
+            ListsAll (Self.entries self.now) (map string_bytes names.items)) };
 
     /// Whether something has this name, be it a link that leads nowhere.
     fn has(&self, name: &str) -> io::Result<bool>

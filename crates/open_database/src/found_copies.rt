@@ -1,6 +1,10 @@
 //! The files of copies, as they are found in a folder.
 
-ghost use Rattle.std.specs.Prelude.{◌≡◌, IfOk, map};
+ghost use Rattle.std.specs.Prelude.{◌≡◌, IfOk, IfSome, map};
+ghost use Rattle.std.specs.List.{All};
+ghost use Rattle.saved_files.specs.Saved.{name_of};
+ghost use Rattle.saved_files.specs.declared.saved_name.SavedName.TheVariants as saved;
+ghost use Rattle.open_database.specs.Found.{IsCopyAt, IsCopyIn, IsCopyReadOf, IsRefusedFor};
 
 use crate::copy_trouble::CopyTrouble;
 use crate::database_folder::{DatabaseFolder, Standing};
@@ -8,8 +12,9 @@ use crate::fault::NO_ENTRY;
 use copy_vault::{ArchiveFault, CompleteCopy, CopyId, read_archive};
 use saved_files::SavedName;
 use std::alloc::{AllocError, Global};
+use std::io;
 use std::io::{ErrorKind, Read};
-use system_files::{Noted, Notes};
+use system_files::Notes;
 
 /// What stands under the name of a copy.
 #[derive(Drop)]
@@ -35,7 +40,9 @@ pub(crate) fn read_copies<F: DatabaseFolder>(
     folder: &F,
     ids: &[CopyId],
 ) -> Result<Vec<CopyFile>, AllocError>
-    ensures { IfOk result (λ files. map (λ file. file.id) files.items ≡ ids.now) }
+    ensures ids { IfOk result (λ files. map (λ file. file.id) files.items ≡ ids.now) }
+    ensures found { IfOk result (λ files. IfSome (F.entries folder.now) (λ there.
+        All (IsCopyIn there) files.items)) }
 {
     let mut copies = Vec::new(alloc);
     for id in ids {
@@ -49,7 +56,10 @@ fn read_copy<F: DatabaseFolder>(
     alloc: Global,
     folder: &F,
     id: CopyId,
-) -> Result<FoundCopy, AllocError> {
+) -> Result<FoundCopy, AllocError>
+    ensures { IfOk result (λ it. IfSome (F.entries folder.now) (λ there.
+        IsCopyAt (there (name_of (saved.Copy id))) it)) }
+{
     let name = format!(in alloc; "{}", SavedName::Copy(id))?;
     match folder.open_file(name.as_str()) {
         Ok(Standing::File(file)) => read_file(alloc, file),
@@ -62,17 +72,45 @@ fn read_copy<F: DatabaseFolder>(
     }
 }
 
-fn read_file<R: Read + Drop>(alloc: Global, file: R) -> Result<FoundCopy, AllocError> {
+/// A file of which it is noted why it could not be read.
+#[derive(Drop)]
+struct NotedCopy<'a, R> {
+    file: R,
+    notes: &'a Notes,
+}
+
+impl<R: Read> Read for NotedCopy<'_, R> {
+    ghost remaining = { λ it. R.remaining it.file };
+
+    fn read(&mut self, buf: &mut [u8]) -> io::Result<usize> {
+        let done = self.file.read(buf);
+        self.notes.note(&done);
+        done
+    }
+}
+
+fn read_file<R: Read + Drop>(alloc: Global, file: R) -> Result<FoundCopy, AllocError>
+    ensures { IfOk result (λ it. IfSome (R.remaining file) (λ bytes. IsCopyReadOf bytes it)) }
+{
     let notes = Notes::new();
-    let mut reader = Noted {
+    let mut reader = NotedCopy {
         file,
         notes: &notes,
     };
     match read_archive(alloc, &mut reader) {
         Ok(copy) => Ok(FoundCopy::Whole(copy)),
-        Err(ArchiveFault::OutOfMemory) => Err(AllocError),
-        Err(ArchiveFault::ReadFault) => Ok(FoundCopy::Unread(CopyTrouble::System(code_of(&notes)))),
-        Err(fault) => Ok(FoundCopy::Wrong(CopyTrouble::Archive(fault))),
+        Err(fault) => refused(fault, &notes),
+    }
+}
+
+/// What is found where an archive was not read.
+fn refused(fault: ArchiveFault, notes: &Notes) -> Result<FoundCopy, AllocError>
+    ensures { IfOk result (IsRefusedFor fault) }
+{
+    match fault {
+        ArchiveFault::OutOfMemory => Err(AllocError),
+        ArchiveFault::ReadFault => Ok(FoundCopy::Unread(CopyTrouble::System(code_of(notes)))),
+        fault => Ok(FoundCopy::Wrong(CopyTrouble::Archive(fault))),
     }
 }
 

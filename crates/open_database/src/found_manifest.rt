@@ -1,8 +1,10 @@
 //! The manifest, as it is found in a folder.
 
-ghost use Rattle.std.specs.Prelude.{◌≡◌, IfSome, take};
+ghost use Rattle.std.specs.Prelude.{◌≡◌, IfOk, IfSome, take};
 ghost use Rattle.manifest.specs.Sums.{HasSummed};
+ghost use Rattle.open_database.specs.DatabaseFolder.{Tells};
 ghost use Rattle.open_database.specs.Evidence.{BeginsAs, log_line};
+ghost use Rattle.open_database.specs.Found.{IsFoundIn, SpellsManifest};
 
 use crate::database_folder::DatabaseFolder;
 use crate::fault::OpenFault;
@@ -17,7 +19,10 @@ pub(crate) fn read_manifest<F: DatabaseFolder>(
     alloc: Global,
     folder: &F,
     is_there: bool,
-) -> Result<Option<Manifest>, OpenFault> {
+) -> Result<Option<Manifest>, OpenFault>
+    ensures { IfOk result (λ it. Tells (F.entries folder.now) MANIFEST.now is_there
+        → IsFoundIn SpellsManifest (F.entries folder.now) MANIFEST.now it) }
+{
     if !is_there {
         return Ok(None);
     }

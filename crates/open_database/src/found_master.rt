@@ -1,10 +1,16 @@
 //! The file of the master record, as it is found in a folder.
 
+ghost use Rattle.std.specs.Prelude.{IfOk};
+ghost use Rattle.log_store.specs.Master.{SpellsMaster};
+ghost use Rattle.open_database.specs.DatabaseFolder.{Tells};
+ghost use Rattle.open_database.specs.Found.{IsFoundIn, IsReadOf};
+ghost use Rattle.open_database.specs.Master.{spelled};
+
 use crate::database_folder::{DatabaseFolder, Standing};
 use crate::fault::OpenFault;
 use crate::names::MASTER;
 use crate::place::Place;
-use crate::whole_file::read_first;
+use crate::whole_file::{first_of, read_first};
 use fuzzy_ckpt::Point;
 use log_records::Record;
 use log_store::{MASTER_BYTES, Master, decode_master};
@@ -67,14 +73,17 @@ fn has_checkpoint(records: &[Record], master: &Master) -> bool {
 pub(crate) fn read_master<F: DatabaseFolder>(
     folder: &F,
     is_there: bool,
-) -> Result<FoundMaster, OpenFault> {
+) -> Result<FoundMaster, OpenFault>
+    ensures { IfOk result (λ it. Tells (F.entries folder.now) MASTER.now is_there
+        → IsFoundIn SpellsMaster (F.entries folder.now) MASTER.now (spelled it)) }
+{
     if !is_there {
         return Ok(FoundMaster::Absent);
     }
     // One byte more shows that there are more.
     let mut bytes = [0; MASTER_BYTES + 1];
     match read_first(folder, MASTER, &mut bytes) {
-        Ok(Standing::File(len)) => Ok(master_in(bytes.get(..len).unwrap_or(&[]))),
+        Ok(Standing::File(len)) => Ok(master_in(first_of(&bytes, len))),
         Ok(Standing::NoFile) => Ok(FoundMaster::Wrong),
         Ok(Standing::Nothing) => Err(OpenFault::absent(Place::Master)),
         Err(error) => Err(OpenFault::of(Place::Master, &error)),
@@ -82,7 +91,9 @@ pub(crate) fn read_master<F: DatabaseFolder>(
 }
 
 /// The master record that these bytes spell, if they spell one.
-fn master_in(bytes: &[u8]) -> FoundMaster {
+fn master_in(bytes: &[u8]) -> FoundMaster
+    ensures { IsReadOf SpellsMaster bytes.now (spelled result) }
+{
     match decode_master(bytes) {
         Some(master) => FoundMaster::Spelled(master),
         None => FoundMaster::Wrong,

@@ -6,7 +6,7 @@ use crate::fault::OpenFault;
 use crate::names::{CLOSED, LOG, MANIFEST, MASTER, VOLUME, copy_of, is_harmless, is_unfinished};
 use crate::place::Place;
 use copy_vault::CopyId;
-use std::alloc::Global;
+use std::alloc::{AllocError, Global};
 use std::io::ErrorKind;
 
 /// The files of a folder that are those of a database, by their names.
@@ -26,8 +26,14 @@ pub(crate) struct Inventory {
 }
 
 impl Inventory {
+    ghost use Rattle.std.specs.Prelude.{ℕ, ◌++◌, [], ◌∷◌, IfOk, List, OnOk, string_bytes};
+    ghost use Rattle.std.specs.List.{Contains};
+    ghost use Rattle.open_database.specs.Found.{IsInventoryOf, TellsNames};
+
     /// Looks at a folder that is claimed.
-    pub fn of<F: DatabaseFolder>(alloc: Global, folder: &F) -> Result<Inventory, OpenFault> {
+    pub fn of<F: DatabaseFolder>(alloc: Global, folder: &F) -> Result<Inventory, OpenFault>
+        ensures { IfOk result (IsInventoryOf (F.entries folder.now)) }
+    {
         let mut there = Inventory {
             copies: Vec::new(alloc),
             has_master: false,
@@ -38,13 +44,12 @@ impl Inventory {
             has_volume: false,
             stranger: None,
         };
-        for name in folder.names().map_err(OpenFault::of_folder)? {
-            let text = name.as_str();
-            if is_unfinished(text) {
-                there.unfinished.push(name)?;
-            } else if !there.note(text)? && there.stranger.is_none() && !is_harmless(text) {
-                there.stranger = Some(name);
-            }
+        let names = match folder.names() {
+            Ok(names) => names,
+            Err(error) => return Err(OpenFault::of_folder(error)),
+        };
+        for name in names {
+            there.take(name)?;
         }
         there.copies.sort_unstable_by_key(|id| id.0);
         Ok(there)
@@ -63,8 +68,28 @@ impl Inventory {
         remove_all(folder, &self.unfinished)
     }
 
+    /// Notes a name that something has.
+    fn take(&mut self, name: String) -> Result<(), AllocError>
+        ensures { OnOk result ((names : List (List ℕ)) → TellsNames (Contains names) self.old
+            → TellsNames (Contains (names ++ string_bytes name ∷ [])) self.new) }
+    {
+        let text = name.as_str();
+        if self.note(text)? {
+            return Ok(());
+        }
+        if is_unfinished(text) {
+            self.unfinished.push(name)?;
+        } else if self.stranger.is_none() && !is_harmless(text) {
+            self.stranger = Some(name);
+        }
+        Ok(())
+    }
+
     /// Notes the name of a file. Says whether it is one of a database.
-    fn note(&mut self, name: &str) -> Result<bool, OpenFault> {
+    fn note(&mut self, name: &str) -> Result<bool, AllocError>
+        ensures { OnOk result ((names : List (List ℕ)) → TellsNames (Contains names) self.old
+            → TellsNames (Contains (names ++ name.now ∷ [])) self.new) }
+    {
         match name {
             LOG => self.has_log = true,
             VOLUME => self.has_volume = true,

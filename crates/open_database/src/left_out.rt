@@ -5,6 +5,7 @@ ghost use Rattle.std.specs.String.{string_bytes};
 ghost use Rattle.std.specs.Io.KnownBytes.{Appends};
 ghost use Rattle.saved_files.specs.FileFault.{Leaves};
 ghost use Rattle.saved_files.specs.Folder.{Changes, IsSame};
+ghost use Rattle.open_database.specs.Closed.{KeepsNote};
 ghost use Rattle.open_database.specs.LeftOut.{IsKept, IsWorthKeeping};
 ghost use Rattle.open_database.specs.MovedAside.{IsFree};
 
@@ -63,6 +64,7 @@ pub(crate) fn put_aside<F: DatabaseFolder>(
     ensures stored { OnOk result (IsWorthKeeping bytes.now → F.is_stored folder.new) }
     ensures same { OnOk result (¬ IsWorthKeeping bytes.now
         → Changes IsSame (F.entries folder.old) (F.entries folder.new)) }
+    ensures note { OnOk result (KeepsNote (F.entries folder.old) (F.entries folder.new)) }
     ensures claimed { F.is_claimed folder.new }
 {
     if !is_worth_keeping(bytes) {

@@ -2,6 +2,7 @@
 
 ghost use Rattle.std.specs.Prelude.{IsTrue};
 ghost use Rattle.open_database.specs.Backups.{IsUnfinished};
+ghost use Rattle.open_database.specs.Found.{IsReadOf, NamesCopy, SpellsNumber};
 
 use copy_vault::CopyId;
 
@@ -33,15 +34,26 @@ const COPY: &str = "copy-";
 const UNFINISHED: &str = ".unfinished-";
 
 /// The number above 0 that is written so.
-fn number_of(text: &str) -> Option<u32> {
-    if text.starts_with('0') || !text.bytes().all(|byte| byte.is_ascii_digit()) {
+pub(crate) fn long_number_of(text: &str) -> Option<u64>
+    ensures { IsReadOf (SpellsNumber 64) text.now result }
+{
+    if text.starts_with('0') || text.starts_with('+') {
         return None;
     }
     text.parse().ok()
 }
 
+/// The same of 32 bits.
+fn number_of(text: &str) -> Option<u32>
+    ensures { IsReadOf (SpellsNumber 32) text.now result }
+{
+    u32::try_from(long_number_of(text)?).ok()
+}
+
 /// The copy whose whole file has this name.
-pub(crate) fn copy_of(name: &str) -> Option<CopyId> {
+pub(crate) fn copy_of(name: &str) -> Option<CopyId>
+    ensures { IsReadOf NamesCopy name.now result }
+{
     Some(CopyId(number_of(name.strip_prefix(COPY)?)?))
 }
 

@@ -9,6 +9,7 @@ ghost use Rattle.std.specs.Io.KnownBytes.{Appends};
 ghost use Rattle.open_database.specs.Calls.{Lives};
 ghost use Rattle.open_database.specs.DatabaseFolder.{OpensLog};
 ghost use Rattle.open_database.specs.FirstLine.{first_line};
+ghost use Rattle.open_database.specs.Found.{IsInventoryOf};
 ghost use Rattle.open_database.specs.Opened.{Begins, IsNew, len_of};
 ghost use Rattle.open_database.specs.Refused.{IsRefusal};
 ghost use Rattle.open_database.specs.Session.{LeavesLine, LivesByLines, ServesLines};
@@ -84,7 +85,7 @@ pub fn open_folder(rt: &HostRuntime, call: &OpenCall<'_>) -> OpenEnd
     requires frames { IsFrameCount call.now.frames }
     // Of the system's folder and output nothing is known.
     ensures { result ≢ Failed → (written : Option (List ℕ))
-        × LivedByLines None call.now.pages call.now.frames None written }
+        × LivedByLines None call.now.salvage call.now.pages call.now.frames None written }
 {
     // Where a standard stream is closed, a file of the database must not get its number.
     let _held = held(rt);
@@ -124,12 +125,12 @@ pub fn open_in<F: DatabaseFolder + Drop, R: Read, W: Write>(
 ) -> OpenEnd
     requires pages { IfSome call.now.pages IsPageCount }
     requires frames { IsFrameCount call.now.frames }
-    ensures lived { result ≢ Failed → LivedByLines (F.entries folder) call.now.pages call.now.frames
-        (W.contents output.old) (W.contents output.new) }
+    ensures lived { result ≢ Failed → LivedByLines (F.entries folder) call.now.salvage call.now.pages
+        call.now.frames (W.contents output.old) (W.contents output.new) }
     // Where it failed, too, nothing else was written.
     ensures told { (W.contents output.new ≡ W.contents output.old)
-        ⊎ LivedByLines (F.entries folder) call.now.pages call.now.frames
-        (W.contents output.old) (W.contents output.new) }
+        ⊎ LivedByLines (F.entries folder) call.now.salvage call.now.pages
+        call.now.frames (W.contents output.old) (W.contents output.new) }
 {
     let notes = Notes::new();
     let streams = StreamNotes {
@@ -158,8 +159,8 @@ fn lived_on<'a, F: DatabaseFolder + Drop, R: Read + Drop, W: Write + Drop>(
     requires pages { IfSome call.now.pages IsPageCount }
     requires frames { IsFrameCount call.now.frames }
     ensures { result ≢ Failed → (written : Option (List ℕ))
-        × LivedByLines (F.entries folder) call.now.pages call.now.frames
-        (W.contents streams.entry.output) written }
+        × LivedByLines (F.entries folder) call.now.salvage call.now.pages
+        call.now.frames (W.contents streams.entry.output) written }
 {
     let Streams {
         mut input,
@@ -189,11 +190,11 @@ fn lived<'a, F: DatabaseFolder + Drop, R: Read, W: Write>(
 ) -> OpenEnd
     requires pages { IfSome call.now.pages IsPageCount }
     requires frames { IsFrameCount call.now.frames }
-    ensures lived { result ≢ Failed → LivedByLines (F.entries folder) call.now.pages call.now.frames
-        (W.contents output.old) (W.contents output.new) }
+    ensures lived { result ≢ Failed → LivedByLines (F.entries folder) call.now.salvage call.now.pages
+        call.now.frames (W.contents output.old) (W.contents output.new) }
     ensures told { (W.contents output.new ≡ W.contents output.old)
-        ⊎ LivedByLines (F.entries folder) call.now.pages call.now.frames
-        (W.contents output.old) (W.contents output.new) }
+        ⊎ LivedByLines (F.entries folder) call.now.salvage call.now.pages
+        call.now.frames (W.contents output.old) (W.contents output.new) }
 {
     match session_in(teller, folder, notes, call) {
         Ok(
@@ -239,8 +240,8 @@ pub(crate) fn opened<F: DatabaseFolder>(
     requires pages { IfSome call.now.pages IsPageCount }
     requires frames { IsFrameCount call.now.frames }
     ensures begins { IfOk result (λ it. (log : Option ℕ) × (ids : List ℕ)
-        × Begins (F.entries folder.old) log ids call.now.pages call.now.frames it.first
-        it.engine.state) }
+        × Begins (F.entries folder.old) call.now.salvage log ids call.now.pages call.now.frames
+        it.first it.engine.state) }
     ensures claimed { IfOk result (λ _. F.is_claimed folder.new) }
     // The folder was only looked at.
     ensures refused { IfErr result (λ fault. IsRefusal fault
@@ -267,8 +268,10 @@ fn open_from<F: DatabaseFolder>(
     requires frames { IsFrameCount call.now.frames }
     requires claimed { F.is_claimed folder.old }
     requires there { OpensLog (F.entries folder.old) F.held log }
-    ensures begins { IfOk result (λ it. Begins (F.entries folder.old) (len_of log)
-        there.now.copies.items call.now.pages call.now.frames it.first it.engine.state) }
+    requires inventory { IsInventoryOf (F.entries folder.old) there.now }
+    ensures begins { IfOk result (λ it. Begins (F.entries folder.old) call.now.salvage
+        (len_of log) there.now.copies.items call.now.pages call.now.frames it.first
+        it.engine.state) }
     ensures refused { IfErr result (λ fault. IsRefusal fault
         → Changes IsSame (F.entries folder.old) (F.entries folder.new)) }
     ensures claimed { F.is_claimed folder.new }

@@ -44,7 +44,7 @@ pub(crate) fn session_in<'a, F: DatabaseFolder + Drop>(
     requires pages { IfSome call.now.pages IsPageCount }
     requires frames { IsFrameCount call.now.frames }
     ensures begins { IfOk result (λ it. (log : Option ℕ) × (ids : List ℕ)
-        × Begins (F.entries folder) log ids call.now.pages call.now.frames
+        × Begins (F.entries folder) call.now.salvage log ids call.now.pages call.now.frames
         it.first it.session.engine.state) }
     ensures claimed { IfOk result (λ it. F.is_claimed it.session.folder) }
 {

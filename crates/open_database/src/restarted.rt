@@ -10,12 +10,13 @@ ghost use Rattle.log_front.specs.Front.{IsFrontOf, end_of};
 ghost use Rattle.log_records.specs.Log.{IsLog, IsPageCount, log_bytes, page_count};
 ghost use Rattle.log_rules.specs.Linked.{IsLinked};
 ghost use Rattle.log_rules.specs.Transactions.{open_in};
-ghost use Rattle.open_database.specs.Closed.{IsVouched};
+ghost use Rattle.open_database.specs.Closed.{IsVouched, IsWithoutNote, KeepsNote, SpellsNote};
 ghost use Rattle.open_database.specs.Copies.{TakesUp, ids_unread};
-ghost use Rattle.open_database.specs.DatabaseFolder.{HasLogBytes, IsLogIn};
+ghost use Rattle.open_database.specs.DatabaseFolder.{HasLogBytes, IsLogIn, Tells};
 ghost use Rattle.saved_files.specs.Folder.{Changes, IsSame, KeepsOthers};
 ghost use Rattle.open_database.specs.Evidence.{LacksNothing};
 ghost use Rattle.open_database.specs.FirstLine.{told_of};
+ghost use Rattle.open_database.specs.Found.{AreFoundIn, IsFoundIn, IsInventoryOf};
 ghost use Rattle.open_database.specs.LeftOut.{IsKept, IsWorthKeeping, WasKept};
 ghost use Rattle.open_database.specs.LeftOut.{behind};
 ghost use Rattle.open_database.specs.Master.{spelled};
@@ -101,8 +102,9 @@ pub(crate) fn reopen<F: DatabaseFolder>(
     requires frames { IsFrameCount call.now.frames }
     requires claimed { F.is_claimed folder.old }
     requires there { IsLogIn (F.entries folder.old) F.held log }
-    ensures goes_on { IfOk result (λ it. GoesOnFromFile (F.entries folder.old) log.len
-        there.now.copies.items it.first it.engine.state) }
+    requires inventory { IsInventoryOf (F.entries folder.old) there.now }
+    ensures goes_on { IfOk result (λ it. GoesOnFromFile (F.entries folder.old) call.now.salvage
+        log.len there.now.copies.items it.first it.engine.state) }
     ensures refused { IfErr result (λ fault. IsRefusal fault
         → Changes IsSame (F.entries folder.old) (F.entries folder.new)) }
     ensures claimed { F.is_claimed folder.new }
@@ -123,7 +125,8 @@ fn find<F: DatabaseFolder>(
     log: LogFile<F::Log>,
     there: &Inventory,
 ) -> Result<Remains<F::LogDisk>, OpenFault>
-    requires { IsLogIn (F.entries folder.now) F.held log }
+    requires there { IsLogIn (F.entries folder.now) F.held log }
+    requires inventory { IsInventoryOf (F.entries folder.now) there.now }
     ensures there { IfOk result (λ it. HasLogBytes (F.entries folder.now) it.log.bytes.items) }
     ensures whole { IfOk result (λ it. length it.log.bytes.items ≡ log.len) }
     ensures front { IfOk result (λ it. IsFrontOf it.log.bytes.items it.log.front) }
@@ -131,6 +134,8 @@ fn find<F: DatabaseFolder>(
     ensures lasting { IfOk result (λ it. LastsOnFile it.log.front.log it.log.device) }
     ensures copies { IfOk result (λ it.
         map (λ file. file.id) it.others.copies.items ≡ there.now.copies.items) }
+    ensures others { IfOk result (λ it. AreFoundIn (F.entries folder.now) it.others.note
+        it.others.manifest (spelled it.others.master) it.others.copies.items) }
 {
     let log = found_in::<F>(teller.alloc, log)?;
     match find_others(teller, folder, there) {
@@ -145,8 +150,12 @@ pub(crate) fn find_others<F: DatabaseFolder>(
     folder: &F,
     there: &Inventory,
 ) -> Result<Others, OpenFault>
-    ensures { IfOk result (λ it.
+    requires { IsInventoryOf (F.entries folder.now) there.now }
+    ensures ids { IfOk result (λ it.
         map (λ file. file.id) it.copies.items ≡ there.now.copies.items) }
+    // What is heard is what stands there.
+    ensures found { IfOk result (λ it. AreFoundIn (F.entries folder.now) it.note it.manifest
+        (spelled it.master) it.copies.items) }
 {
     let alloc = teller.alloc;
     let note = note_there(teller, folder, there)?;
@@ -166,7 +175,10 @@ fn note_there<F: DatabaseFolder>(
     teller: &Teller<'_>,
     folder: &F,
     there: &Inventory,
-) -> Result<Option<ClosedNote>, OpenFault> {
+) -> Result<Option<ClosedNote>, OpenFault>
+    requires { IsInventoryOf (F.entries folder.now) there.now }
+    ensures { IfOk result (IsFoundIn SpellsNote (F.entries folder.now) CLOSED.now) }
+{
     if !there.has_closed {
         return Ok(None);
     }
@@ -332,6 +344,9 @@ fn settle<F: DatabaseFolder>(
     // and is gone from the log's for certain, before any record is stored there.
     ensures alone { OnOk result (remains.old.log.front.cut ≢ None
         → bytes_of remains.new.log.device ≡ log_bytes remains.new.log.front.log) }
+    // No note of a closing stands there from now on.
+    ensures gone { OnOk result (Tells (F.entries folder.old) CLOSED.now there.now.has_closed
+        → IsWithoutNote (F.entries folder.new)) }
     // What the log's file gave is taken at its word only where the last closing vouches for it.
     ensures vouched { OnOk result ((remains.new.log.device.is_read ≡ false)
         ⊎ IsVouched remains.old.others.note (end_of remains.old.log.front.log)) }
@@ -356,6 +371,7 @@ fn keep_behind<F: DatabaseFolder>(
     requires { F.is_claimed folder.old }
     ensures kept { OnOk result (found.now.front.cut ≢ None → IsWorthKeeping (behind found.now)
         → IsKept (F.entries folder.old) (behind found.now) (F.entries folder.new)) }
+    ensures note { OnOk result (KeepsNote (F.entries folder.old) (F.entries folder.new)) }
     ensures claimed { F.is_claimed folder.new }
 {
     match found.front.cut() {
@@ -370,6 +386,10 @@ fn keep_behind<F: DatabaseFolder>(
 /// Removes the note of the last closing, if there is one.
 fn forget_closing<F: DatabaseFolder>(folder: &mut F, there: &Inventory) -> Result<(), ChangeFault>
     requires { F.is_claimed folder.old }
+    // Where it is known whether one stood there, none does now; and it is gone for certain.
+    ensures gone { OnOk result (Tells (F.entries folder.old) CLOSED.now there.now.has_closed
+        → IsWithoutNote (F.entries folder.new)) }
+    ensures stored { OnOk result (IsTrue there.now.has_closed → F.is_stored folder.new) }
     ensures others { OnOk result
         (Changes (KeepsOthers CLOSED.now) (F.entries folder.old) (F.entries folder.new)) }
     ensures claimed { F.is_claimed folder.new }

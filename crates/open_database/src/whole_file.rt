@@ -1,9 +1,9 @@
 //! Files that are read by their names, and bytes as those of another file.
 
-ghost use Rattle.std.specs.Prelude.{◌≡◌, IfOk};
+ghost use Rattle.std.specs.Prelude.{◌≡◌, ◌≤◌, IfOk, IfSome, length, take};
 ghost use Rattle.std.specs.Io.KnownBytes.{Appends};
+ghost use Rattle.open_database.specs.DatabaseFolder.{BeginsIn, Reads};
 ghost use Rattle.saved_files.specs.FileFault.{Leaves};
-ghost use Rattle.open_database.specs.DatabaseFolder.{Reads};
 
 use crate::database_folder::{DatabaseFolder, Standing};
 use crate::fault::OpenFault;
@@ -37,7 +37,10 @@ pub(crate) fn read_first<F: DatabaseFolder>(
     folder: &F,
     name: &str,
     bytes: &mut [u8],
-) -> io::Result<Standing<usize>> {
+) -> io::Result<Standing<usize>>
+    ensures { IfOk result (λ it. IfSome (F.entries folder.now) (λ there.
+        BeginsIn it bytes.new (there name.now))) }
+{
     match folder.open_file(name)? {
         Standing::File(mut file) => Ok(Standing::File(fill(&mut file, bytes)?)),
         Standing::NoFile => Ok(Standing::NoFile),
@@ -46,19 +49,27 @@ pub(crate) fn read_first<F: DatabaseFolder>(
 }
 
 /// Fills the buffer as far as the reader has bytes, and says how far that is.
-fn fill<R: Read>(file: &mut R, bytes: &mut [u8]) -> io::Result<usize> {
-    let mut len = 0usize;
+fn fill<R: Read>(file: &mut R, bytes: &mut [u8]) -> io::Result<usize>
+    ensures within { IfOk result (λ len. len ≤ length bytes.new) }
+    ensures first { IfOk result (λ len. IfSome (R.remaining file.old) (λ all.
+        take len bytes.new ≡ take (length bytes.new) all)) }
+{
+    let mut len = 0;
     for _ in 0..=bytes.len() {
-        let Some(rest) = bytes.get_mut(len..) else {
-            break;
-        };
-        let count = file.read(rest)?;
+        let count = file.read(&mut bytes[len..])?;
         if count == 0 {
             break;
         }
-        len = len.saturating_add(count);
+        len += count;
     }
     Ok(len)
+}
+
+/// The first bytes of a buffer, if it has so many.
+pub(crate) fn first_of(bytes: &[u8], len: usize) -> &[u8]
+    ensures { len ≤ length bytes.now → result.now ≡ take len bytes.now }
+{
+    bytes.get(..len).unwrap_or(&[])
 }
 
 /// Bytes that a file is made of.

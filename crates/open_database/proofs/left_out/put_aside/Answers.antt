@@ -2,6 +2,7 @@ use Rattle.std.proofs.Common.{◌≡◌, List, ℕ, subst, sym, ◌∙◌}
 use Rattle.std.specs.Prelude.{OnOk}
 use Rattle.saved_files.specs.Folder.{Changes, Puts}
 use Rattle.open_database.specs.MovedAside.{IsFree}
+use Rattle.open_database.proofs.Forgotten.{note_put}
 use Rattle.open_database.proofs.Puts.{put_and_synced}
 use Rattle.open_database.proofs.left_out.put_aside.Goals as goal
 
@@ -19,3 +20,13 @@ returns-clause-kept g c worth =
           (entries c.put_in_place-put.new.folder))) c.in_default.is c.put_in_place-put.ensures.put)
           c.sync_names.ensures.same,
     )
+
+pub returns-clause-note : goal.returns-clause-note
+returns-clause-note g c =
+    let name = c.as_str.result.now in
+    let entries = g.F.Folder.entries in
+    note_put name (λ it. it ≡ c.args.bytes.now) (entries c.args.folder.now) (entries c.put_in_place-put.new.folder)
+    (entries c.sync_names.new.self) (λ same. c.in_ok-name.ensures.apart (sym c.as_str.ensures.value ∙ same))
+    (subst (λ r. OnOk r (Changes (Puts name (λ it. it ≡ c.args.bytes.now)) (entries c.args.folder.now)
+    (entries c.put_in_place-put.new.folder))) c.in_default.is c.put_in_place-put.ensures.put)
+    c.sync_names.ensures.same

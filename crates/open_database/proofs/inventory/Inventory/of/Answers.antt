@@ -1,0 +1,38 @@
+use Rattle.std.proofs.Common.{◌≡◌, ◌∷◌, [], ap, List, ℕ, map, map-id, refl, string_bytes, subst, sym, ◌∙◌}
+use Rattle.std.specs.List.{Contains}
+use Rattle.std.proofs.lemmas.Iterator.Adapters.{YieldsList-from_vec}
+use Rattle.std.proofs.lemmas.Iterator.Consumers.{YieldsList-end}
+use Rattle.std.proofs.lemmas.List.{map-append}
+use Rattle.open_database.specs.Found.{TellsNames}
+use Rattle.open_database.proofs.Founds.{of_listed}
+use Rattle.open_database.proofs.Inventories.{moved_ids, none_noted}
+use Rattle.open_database.proofs.inventory.Inventory.of.Goals as goal
+
+pub loop-name-init : goal.loop-name-init
+loop-name-init g c = none_noted _ c.new.ensures.items refl refl refl refl refl
+
+pub loop-name-preserved : goal.loop-name-preserved
+loop-name-preserved g c =
+    subst (λ (names : List (List ℕ)). TellsNames (Contains names) c.take.new.self)
+    (sym (map-append string_bytes c.loop-name.yielded (c.in-Some.name ∷ [])))
+    (c.in_ok-take.ensures (map string_bytes c.loop-name.yielded) c.loop-name.invariant)
+
+pub returns : goal.returns
+returns g c =
+    let names = map string_bytes c.in-Ok.names.items in
+    let gives = c.into_iter-name-iterator.ensures.into_iter_gives in
+    let drained = YieldsList-end (YieldsList-from_vec {s = c.into_iter-name-iterator.result} c.in-Ok.names.items gives.0
+    (gives.1 ∙ c.in-Ok.names.ok.0)) c.loop-name.yielded c.loop-name.name-iterator c.loop-name.yielded_by c.next.result
+    c.next.new.self c.in-None.is c.next.ensures.steps in
+    let all : map string_bytes c.loop-name.yielded ≡ names =
+    ap (map string_bytes) (sym (map-id c.loop-name.yielded) ∙ drained.0) in
+    let told = subst (λ (ns : List (List ℕ)). TellsNames (Contains ns) c.loop-name.there) all c.loop-name.invariant in
+    of_listed (g.F.Folder.entries c.args.folder.now) names _ c.in-Ok.ensures (record {
+      log = told.log;
+      volume = told.volume;
+      master = told.master;
+      closed = told.closed;
+      manifest = told.manifest;
+      copies = moved_ids c.loop-name.there.copies.items c.sort_unstable_by_key.new.self.items names
+          c.sort_unstable_by_key.ensures.permutation told.copies;
+    })

@@ -1,0 +1,37 @@
+use Rattle.std.proofs.Common.{string_bytes}
+use Rattle.open_database.proofs.Inventories.{of_same}
+use Rattle.open_database.proofs.inventory.Inventory.take.Goals as goal
+
+pub returns-then-branch : goal.returns-then-branch
+returns-then-branch c =
+    of_same c.as_str-text.result.now (string_bytes c.args.name) c.args.self.now c.note.new.self
+    c.as_str-text.ensures.value c.in_ok-note.ensures
+
+pub returns-in_ok-push : goal.returns-in_ok-push
+returns-in_ok-push c = λ names was.
+    let it = of_same c.as_str-text.result.now (string_bytes c.args.name) c.args.self.now c.note.new.self
+    c.as_str-text.ensures.value c.in_ok-note.ensures names was in record {
+      log = it.log;
+      volume = it.volume;
+      master = it.master;
+      closed = it.closed;
+      manifest = it.manifest;
+      copies = it.copies;
+    }
+
+pub returns-then-not-is_harmless : goal.returns-then-not-is_harmless
+returns-then-not-is_harmless c = λ names was.
+    let it = of_same c.as_str-text.result.now (string_bytes c.args.name) c.args.self.now c.note.new.self
+    c.as_str-text.ensures.value c.in_ok-note.ensures names was in record {
+      log = it.log;
+      volume = it.volume;
+      master = it.master;
+      closed = it.closed;
+      manifest = it.manifest;
+      copies = it.copies;
+    }
+
+pub returns-else-is_none : goal.returns-else-is_none
+returns-else-is_none c =
+    of_same c.as_str-text.result.now (string_bytes c.args.name) c.args.self.now c.note.new.self
+    c.as_str-text.ensures.value c.in_ok-note.ensures
