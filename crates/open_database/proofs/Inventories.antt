@@ -60,10 +60,13 @@ no_copy : (ids : List ℕ) (names : List (List ℕ)) (name : List ℕ) (id : ℕ
     → AreIdsOf ids names id → AreIdsOf ids (names ++ name ∷ []) id
 no_copy ids names name id not was = (
   λ has. let it = was.0 has in (it.0, Contains-append_left names (name ∷ []) (codes "copy-" ++ decimal id) it.1),
-  λ had. was.1 (had.0, elim (Contains-push_cases names name (codes "copy-" ++ decimal id) had.1) [
-    | inl before ↦ before
-    | inr same ↦ absurd (not (had.0, same))
-  ]),
+  λ had. was.1 (
+    had.0,
+    elim (Contains-push_cases names name (codes "copy-" ++ decimal id) had.1) [
+      | inl before ↦ before
+      | inr same ↦ absurd (not (had.0, same))
+    ],
+  ),
 )
 
 -- or that of this one
@@ -72,7 +75,7 @@ one_copy : (ids : List ℕ) (names : List (List ℕ)) (name : List ℕ) (new id 
 one_copy ids names name new id is was = (
   λ has. elim (Contains-push_cases ids new id has) [
     | inl before ↦
-      let it = was.0 before in (it.0, Contains-append_left names (name ∷ []) (codes "copy-" ++ decimal id) it.1)
+        let it = was.0 before in (it.0, Contains-append_left names (name ∷ []) (codes "copy-" ++ decimal id) it.1)
     | inr same ↦ (
       subst IsCopyId same is.0,
       subst (λ (n : List ℕ). Contains (names ++ name ∷ []) n) (is.1 ∙ ap (λ (k : ℕ). codes "copy-" ++ decimal k) same)
@@ -82,9 +85,9 @@ one_copy ids names name new id is was = (
   λ had. elim (Contains-push_cases names name (codes "copy-" ++ decimal id) had.1) [
     | inl before ↦ Contains-append_left ids (new ∷ []) id (was.1 (had.0, before))
     | inr same ↦
-      let digits : decimal new ≡ decimal id = ap (drop 5) (sym is.1 ∙ same) in
-      let it : new ≡ id = decimal_injective new id (omega (arith, is.0.1)) (omega (arith, had.0.1)) digits in
-      subst (λ (k : ℕ). Contains (ids ++ new ∷ []) k) it (Contains-push ids new)
+        let digits : decimal new ≡ decimal id = ap (drop 5) (sym is.1 ∙ same) in
+        let it : new ≡ id = decimal_injective new id (omega (arith, is.0.1)) (omega (arith, had.0.1)) digits in
+        subst (λ (k : ℕ). Contains (ids ++ new ∷ []) k) it (Contains-push ids new)
   ],
 )
 
