@@ -4,6 +4,7 @@ mod CutLives
 mod Forgotten
 mod Founds
 mod Inventories
+mod Lines
 mod LogThere
 mod Notes
 mod Numbers

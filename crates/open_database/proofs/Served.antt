@@ -1,6 +1,6 @@
 -- Lines that were taken, one after another.
-use Rattle.std.proofs.Common.{ℕ, ◌≡◌, ◌++◌, List, [], ◌∷◌, refl, subst, sym}
-use Rattle.std.specs.Prelude.{Option, Some, None, Result, Ok, Err, IfErr, IfOk, IsErrAnd, OnOk}
+use Rattle.std.proofs.Common.{ℕ, ◌≡◌, ◌+◌, ◌++◌, List, [], ◌∷◌, arith, length, length-append, refl, subst, sym}
+use Rattle.std.specs.Prelude.{Option, Some, None, Result, Ok, Err, IfErr, IfSome, IsErrAnd, OnOk}
 use Rattle.std.specs.Io.KnownBytes.{Appends, Keeps}
 use Rattle.std.specs.List.{All}
 use Rattle.std.proofs.lemmas.List.Elements.{All-append, All-cons, All-nil}
@@ -13,22 +13,24 @@ use Rattle.engine_calls.specs.declared.refusal.Refusal.TheVariants.{CopyNotOpen,
 use Rattle.engine_rules.specs.EngineState.{EngineState}
 use Rattle.engine_rules.specs.Step.{Step}
 use Rattle.saved_files.specs.Folder.{Entries}
+use Rattle.open_database.proofs.Lines.{AreTaken, IsTaken, all_lines, first_lines, none_taken, one_taken}
 use Rattle.open_database.proofs.Runs.{closing_lives, run_append, runs_none, runs_then}
 use Rattle.open_database.specs.Calls.{IsAnyReply, IsOfClosing, IsPlain, Lives, Makes, RunsBy, SaysOf, ended, plain, sealed}
+use Rattle.open_database.specs.Lines.{IsOver, Line, lines_in}
 use Rattle.open_database.specs.MadeFiles.{StepsAndSays}
 use Rattle.open_database.specs.Said.{said_line}
-use Rattle.open_database.specs.Session.{LeavesLast, LeavesLine, LeavesServed, LeavesTaken, LivesByLines}
-use Rattle.open_database.specs.Session.{Says, SaysCall, Serves, ServesLines, Takes, all_served, bad_not_told, bad_told}
-use Rattle.open_database.specs.Session.{WritesBad, call_told, not_begun, not_taken, not_told, nothing_told, one_left}
-use Rattle.open_database.specs.Session.{word_not_told, word_told}
-use Rattle.open_database.specs.Words.{MakesWord, Spells, Told, text_of}
+use Rattle.open_database.specs.Session.{LeavesBad, LeavesLast, LeavesLine, LeavesNext, LeavesServed, LeavesTaken}
+use Rattle.open_database.specs.Session.{LineSays, LivesByLines, Serves, ServesAll, ServesLines, Takes, WritesBad}
+use Rattle.open_database.specs.Session.{all_served, bad_not_told, bad_told, call_told, next_left, not_begun, not_read}
+use Rattle.open_database.specs.Session.{not_taken, not_told, nothing_told, one_left, silent, word_not_told, word_told}
+use Rattle.open_database.specs.Words.{MakesWord, Told, text_of}
 use Rattle.open_database.specs.declared.bad_call.LineTrouble.{LineTrouble}
 use Rattle.open_database.specs.declared.order.Order.{Order}
 use Rattle.open_database.specs.declared.order.Order.TheVariants as order
 use Rattle.open_database.specs.declared.said.Said.{Said}
 use Rattle.open_database.specs.declared.said.Said.TheVariants.{Reply}
 use Rattle.open_database.specs.declared.session.ServeFault.{ServeFault}
-use Rattle.open_database.specs.declared.session.ServeFault.TheVariants.{OutOfMemory}
+use Rattle.open_database.specs.declared.session.ServeFault.TheVariants.{OutOfMemory, ReadFault}
 use Rattle.open_database.specs.declared.word.Word.{Word}
 
 -- any replies will do
@@ -65,7 +67,7 @@ made_end old new said steps =
 
 -- ---- all lines
 
-pub served_none : (s : EngineState) (written : Option (List ℕ)) → Serves s s written written
+served_none : (s : EngineState) (written : Option (List ℕ)) → Serves [] s s written written
 served_none s written = record {
   events = [];
   replies = [];
@@ -74,39 +76,51 @@ served_none s written = record {
   told = nothing_told;
 }
 
-served_call : (old mid new : EngineState) (before text after : Option (List ℕ)) (line : List ℕ) (event : Event)
-    (said : Said) → Serves old mid before text → SaysCall line (Some event) → Makes event mid said new
-    → Appends text after (said_line said) → Serves old new before after
-served_call old mid new before text after line event said so_far says made writes = record {
-  events = so_far.events ++ made.events;
-  replies = so_far.replies ++ made.replies;
-  fit = All-append EventFits so_far.events made.events so_far.fit made.fit;
-  run = run_append old mid new so_far.events made.events so_far.replies made.replies so_far.run made.run;
-  told = call_told so_far.events made.events so_far.replies made.replies text after line event said so_far.told
-      says made.says writes;
-}
+module _ (lines : List Line) (line : Line) (old : EngineState) (before : Option (List ℕ)) where
+  served_silent : (new : EngineState) (after : Option (List ℕ)) → Serves lines old new before after
+      → LineSays line (Ok None) → Serves (lines ++ line ∷ []) old new before after
+  served_silent new after so_far says = record {
+    events = so_far.events;
+    replies = so_far.replies;
+    fit = so_far.fit;
+    run = so_far.run;
+    told = silent lines so_far.events so_far.replies after line so_far.told says;
+  }
 
-served_word : (old mid new : EngineState) (before text after : Option (List ℕ)) (line : List ℕ) (word : Word)
-    (told : Told) → Serves old mid before text → Spells line word → MakesWord word mid told new
-    → Appends text after (text_of told) → Serves old new before after
-served_word old mid new before text after line word told so_far spells made writes = record {
-  events = so_far.events ++ made.events;
-  replies = so_far.replies ++ made.replies;
-  fit = All-append EventFits so_far.events made.events so_far.fit made.fit;
-  run = run_append old mid new so_far.events made.events so_far.replies made.replies so_far.run made.run;
-  told = word_told so_far.events made.events so_far.replies made.replies text after line word told so_far.told
-      spells made.holds writes;
-}
+  served_call : (mid new : EngineState) (text after : Option (List ℕ)) (event : Event) (said : Said)
+      → Serves lines old mid before text → LineSays line (Ok (Some (order.Call event))) → Makes event mid said new
+      → Appends text after (said_line said) → Serves (lines ++ line ∷ []) old new before after
+  served_call mid new text after event said so_far says made writes = record {
+    events = so_far.events ++ made.events;
+    replies = so_far.replies ++ made.replies;
+    fit = All-append EventFits so_far.events made.events so_far.fit made.fit;
+    run = run_append old mid new so_far.events made.events so_far.replies made.replies so_far.run made.run;
+    told = call_told lines so_far.events made.events so_far.replies made.replies text after line event said
+        so_far.told says made.says writes;
+  }
 
-served_bad : (old new : EngineState) (before text after : Option (List ℕ)) (number : ℕ) → Serves old new before text
-    → WritesBad number text after → Serves old new before after
-served_bad old new before text after number so_far bad = record {
-  events = so_far.events;
-  replies = so_far.replies;
-  fit = so_far.fit;
-  run = so_far.run;
-  told = bad_told so_far.events so_far.replies text after number so_far.told bad;
-}
+  served_word : (mid new : EngineState) (text after : Option (List ℕ)) (word : Word) (told : Told)
+      → Serves lines old mid before text → LineSays line (Ok (Some (order.Word word))) → MakesWord word mid told new
+      → Appends text after (text_of told) → Serves (lines ++ line ∷ []) old new before after
+  served_word mid new text after word told so_far says made writes = record {
+    events = so_far.events ++ made.events;
+    replies = so_far.replies ++ made.replies;
+    fit = All-append EventFits so_far.events made.events so_far.fit made.fit;
+    run = run_append old mid new so_far.events made.events so_far.replies made.replies so_far.run made.run;
+    told = word_told lines so_far.events made.events so_far.replies made.replies text after line word told
+        so_far.told says made.holds writes;
+  }
+
+  served_bad : (new : EngineState) (text after : Option (List ℕ)) (why : LineTrouble)
+      → Serves lines old new before text → LineSays line (Err why)
+      → WritesBad (1 + length lines) text after → Serves (lines ++ line ∷ []) old new before after
+  served_bad new text after why so_far says bad = record {
+    events = so_far.events;
+    replies = so_far.replies;
+    fit = so_far.fit;
+    run = so_far.run;
+    told = bad_told lines so_far.events so_far.replies text after line why so_far.told says bad;
+  }
 
 -- what is said of a fault that was handed on
 pub handed_on : {T : Type 0} (r : Result T ServeFault) (fault : ServeFault) (Q : ServeFault → Type 0)
@@ -114,59 +128,117 @@ pub handed_on : {T : Type 0} (r : Result T ServeFault) (fault : ServeFault) (Q :
 handed_on (Ok x) fault Q is h = tt
 handed_on (Err f) fault Q is h = subst Q (sym is) h
 
-module _ (old mid new : EngineState) (before text after : Option (List ℕ)) (line : List ℕ) (number : ℕ)
-    (entries : Option Entries) (is_stored : Type 0) (so_far : Serves old mid before text) where
+-- the lines before the one of this number were taken, and these bytes are left
+pub record HasServed (start left : Option (List ℕ)) (number : ℕ) (old new : EngineState)
+    (before after : Option (List ℕ)) : Type 0 where
+  pub lines : List Line
+  pub counted : number ≡ 1 + length lines
+  pub taken : AreTaken start left lines
+  pub served : Serves lines old new before after
+
+pub served_nothing : (left : Option (List ℕ)) (s : EngineState) (written : Option (List ℕ))
+    → HasServed left left 1 s s written written
+served_nothing left s written = record {
+  lines = [];
+  counted = refl;
+  taken = none_taken left;
+  served = served_none s written;
+}
+
+module _ (start reached left : Option (List ℕ)) (number : ℕ) (old mid new : EngineState)
+    (before text after : Option (List ℕ)) (line : Line) (entries : Option Entries) (is_stored : Type 0)
+    (so_far : HasServed start reached number old mid before text) (taken : IsTaken reached left line) where
+  more : (said : Result (Option Order) LineTrouble) → LineSays line said
+      → Takes number said mid new entries is_stored text after
+      → Serves (so_far.lines ++ line ∷ []) old new before after
+  more (Ok None) says same =
+      subst (λ (s : EngineState). Serves (so_far.lines ++ line ∷ []) old s before after) (sym same.0)
+      (subst (λ (w : Option (List ℕ)). Serves (so_far.lines ++ line ∷ []) old mid before w) (sym same.1)
+      (served_silent so_far.lines line old before mid text so_far.served says))
+  more (Ok (Some (order.Call event))) says answers =
+      served_call so_far.lines line old before mid new text after event answers.said so_far.served says answers.made
+      answers.written
+  more (Ok (Some (order.Word word))) says takes =
+      served_word so_far.lines line old before mid new text after word takes.told so_far.served says takes.made
+      takes.written
+  more (Err why) says bad =
+      subst (λ (s : EngineState). Serves (so_far.lines ++ line ∷ []) old s before after) (sym bad.0)
+      (served_bad so_far.lines line old before mid text after why so_far.served says
+      (subst (λ (n : ℕ). WritesBad n text after) so_far.counted bad.1))
+
   -- one more line was taken
-  pub served_more : (said : Result (Option Order) LineTrouble) → IfOk said (Says line)
-      → Takes number said mid new entries is_stored text after → Serves old new before after
-  served_more (Ok None) says same =
-      subst (λ (s : EngineState). Serves old s before after) (sym same.0)
-      (subst (λ (w : Option (List ℕ)). Serves old mid before w) (sym same.1) so_far)
-  served_more (Ok (Some (order.Call event))) says answers =
-      served_call old mid new before text after line event answers.said so_far says answers.made answers.written
-  served_more (Ok (Some (order.Word word))) says takes =
-      served_word old mid new before text after line word takes.told so_far says takes.made takes.written
-  served_more (Err why) says bad =
-      subst (λ (s : EngineState). Serves old s before after) (sym bad.0)
-      (served_bad old mid before text after number so_far bad.1)
+  pub served_more : (said : Result (Option Order) LineTrouble) → LineSays line said
+      → Takes number said mid new entries is_stored text after
+      → HasServed start left (number + 1) old new before after
+  served_more said says takes = record {
+    lines = so_far.lines ++ line ∷ [];
+    counted = omega (arith, so_far.counted, length-append so_far.lines (line ∷ []));
+    taken = one_taken start reached left so_far.lines line so_far.taken taken;
+    served = more said says takes;
+  }
+
+  last : (said : Result (Option Order) LineTrouble) → LineSays line said → (fault : ServeFault)
+      → LeavesTaken number said mid new entries is_stored text after fault
+      → LeavesLast line (1 + length so_far.lines) mid new text after fault
+  last (Ok None) says fault left = absurd left
+  last (Ok (Some (order.Call event))) says fault left = not_told event left.said says left.made left.left
+  last (Ok (Some (order.Word word))) says fault left = word_not_told word left.told says left.made left.left
+  last (Err why) says fault left =
+      bad_not_told why says left.0 (subst (λ (n : ℕ). LeavesBad n text after fault) so_far.counted left.1)
 
   -- one was left
-  pub left_more : (said : Result (Option Order) LineTrouble) (fault : ServeFault)
-      → LeavesTaken number said mid new entries is_stored text after fault → LeavesServed old new before after fault
-  left_more (Ok None) fault left = absurd left
-  left_more (Ok (Some (order.Call event))) fault left = record {
+  pub left_more : (said : Result (Option Order) LineTrouble) → LineSays line said → (fault : ServeFault)
+      → LeavesTaken number said mid new entries is_stored text after fault
+      → LeavesServed start old new before after fault
+  left_more said says fault was = record {
+    lines = so_far.lines;
     engine = mid;
     written = text;
-    served = so_far;
-    last = not_told event left.said left.made left.left;
-  }
-  left_more (Ok (Some (order.Word word))) fault left = record {
-    engine = mid;
-    written = text;
-    served = so_far;
-    last = word_not_told word left.told left.made left.left;
-  }
-  left_more (Err why) fault left = record {
-    engine = mid;
-    written = text;
-    served = so_far;
-    last = bad_not_told number left.0 left.1;
+    served = so_far.served;
+    next = next_left line (first_lines start left (so_far.lines ++ line ∷ [])
+        (one_taken start reached left so_far.lines line so_far.taken taken)) (last said says fault was);
   }
 
--- none was taken any more
-pub left_there : (old new : EngineState) (before after : Option (List ℕ)) (fault : ServeFault)
-    → Serves old new before after → LeavesServed old new before after fault
-left_there old new before after fault so_far = record {
+-- one was left for want of memory
+pub left_untaken : (start reached left : Option (List ℕ)) (number : ℕ) (old new : EngineState)
+    (before after : Option (List ℕ)) (line : Line) → HasServed start reached number old new before after
+    → IsTaken reached left line → LeavesServed start old new before after OutOfMemory
+left_untaken start reached left number old new before after line so_far taken = record {
+  lines = so_far.lines;
   engine = new;
   written = after;
-  served = so_far;
-  last = not_taken refl refl;
+  served = so_far.served;
+  next = next_left line (first_lines start left (so_far.lines ++ line ∷ [])
+      (one_taken start reached left so_far.lines line so_far.taken taken)) (not_taken refl refl refl);
+}
+
+-- no other one was read
+pub left_unread : (start reached : Option (List ℕ)) (number : ℕ) (old new : EngineState)
+    (before after : Option (List ℕ)) → HasServed start reached number old new before after
+    → LeavesServed start old new before after ReadFault
+left_unread start reached number old new before after so_far = record {
+  lines = so_far.lines;
+  engine = new;
+  written = after;
+  served = so_far.served;
+  next = not_read (first_lines start reached so_far.lines so_far.taken) refl refl refl;
+}
+
+-- all were taken
+pub served_all : (start reached : Option (List ℕ)) (number : ℕ) (old new : EngineState)
+    (before after : Option (List ℕ)) → HasServed start reached number old new before after
+    → IfSome reached (λ input. IsOver (lines_in input)) → ServesAll start old new before after
+served_all start reached number old new before after so_far over = record {
+  lines = so_far.lines;
+  all = all_lines start reached so_far.lines so_far.taken over;
+  served = so_far.served;
 }
 
 -- ---- runs
 
-pub served_lives : (old new : EngineState) (before after : Option (List ℕ)) → Serves old new before after → Lives old new
-served_lives old new before after served = record {
+served_lives : (lines : List Line) (old new : EngineState) (before after : Option (List ℕ))
+    → Serves lines old new before after → Lives old new
+served_lives lines old new before after served = record {
   events = served.events;
   replies = served.replies;
   calls = served.fit;
@@ -192,21 +264,31 @@ word_lives word old new told made = record {
   run = made.run;
 }
 
-last_lives : (old new : EngineState) (before after : Option (List ℕ)) (fault : ServeFault)
-    → LeavesLast old new before after fault → Lives old new
-last_lives old new before after fault (not_taken is same) =
-    subst (λ (s : EngineState). Lives old s) (sym is) (runs_none EventFits IsAnyReply old)
-last_lives old new before after fault (not_told event said made left) = made_lives event old new said made
-last_lives old new before after fault (word_not_told word told made left) = word_lives word old new told made
-last_lives old new before after fault (bad_not_told number is left) =
+same_lives : (old new : EngineState) → new ≡ old → Lives old new
+same_lives old new is =
     subst (λ (s : EngineState). Lives old s) (sym is) (runs_none EventFits IsAnyReply old)
 
-pub left_lives : (old new : EngineState) (before after : Option (List ℕ)) (fault : ServeFault)
-    → LeavesServed old new before after fault → Lives old new
-left_lives old new before after fault left =
+last_lives : (line : Line) (number : ℕ) (old new : EngineState) (before after : Option (List ℕ)) (fault : ServeFault)
+    → LeavesLast line number old new before after fault → Lives old new
+last_lives line number old new before after fault (not_taken why is same) = same_lives old new is
+last_lives line number old new before after fault (not_told event said says made left) =
+    made_lives event old new said made
+last_lives line number old new before after fault (word_not_told word told says made left) =
+    word_lives word old new told made
+last_lives line number old new before after fault (bad_not_told why says is left) = same_lives old new is
+
+next_lives : (input : Option (List ℕ)) (lines : List Line) (old new : EngineState) (before after : Option (List ℕ))
+    (fault : ServeFault) → LeavesNext input lines old new before after fault → Lives old new
+next_lives input lines old new before after fault (not_read first why is same) = same_lives old new is
+next_lives input lines old new before after fault (next_left line first last) =
+    last_lives line (1 + length lines) old new before after fault last
+
+left_lives : (input : Option (List ℕ)) (old new : EngineState) (before after : Option (List ℕ)) (fault : ServeFault)
+    → LeavesServed input old new before after fault → Lives old new
+left_lives input old new before after fault left =
     runs_then EventFits IsAnyReply old left.engine new
-    (served_lives old left.engine before left.written left.served)
-    (last_lives left.engine new left.written after fault left.last)
+    (served_lives left.lines old left.engine before left.written left.served)
+    (next_lives input left.lines left.engine new left.written after fault left.next)
 
 -- ---- a session
 
@@ -214,39 +296,40 @@ kept_bytes : (known : Option (List ℕ)) → Keeps known known
 kept_bytes None = tt
 kept_bytes (Some bytes) = refl
 
--- there was no memory for the lines, and nothing was done
-pub no_lines : (first : List ℕ) (s : EngineState) (known : Option (List ℕ)) → ServesLines first s s known known
-no_lines first s known = not_begun OutOfMemory refl (kept_bytes known)
+module _ (first : List ℕ) (input : Option (List ℕ)) where
+  -- there was no memory for the lines, and nothing was done
+  pub no_lines : (s : EngineState) (known : Option (List ℕ)) → ServesLines first input s s known known
+  no_lines s known = not_begun OutOfMemory refl (kept_bytes known)
 
--- the first line was not written, or not all of it
-pub no_first : (first : List ℕ) (s : EngineState) (before after : Option (List ℕ)) (fault : ServeFault)
-    → LeavesLine before after first fault → ServesLines first s s before after
-no_first first s before after fault left = not_begun fault refl left
+  -- the first line was not written, or not all of it
+  pub no_first : (s : EngineState) (before after : Option (List ℕ)) (fault : ServeFault)
+      → LeavesLine before after first fault → ServesLines first input s s before after
+  no_first s before after fault left = not_begun fault refl left
 
-pub some_lines : (first : List ℕ) (old new : EngineState) (before told after : Option (List ℕ))
-    (r : Result Unit ServeFault) → Appends before told first → OnOk r (Serves old new told after)
-    → IfErr r (LeavesServed old new told after) → ServesLines first old new before after
-some_lines first old new before told after (Ok x) tells served left = all_served told tells served
-some_lines first old new before told after (Err fault) tells served left = one_left told fault tells left
+  pub some_lines : (old new : EngineState) (before told after : Option (List ℕ)) (r : Result Unit ServeFault)
+      → Appends before told first → OnOk r (ServesAll input old new told after)
+      → IfErr r (LeavesServed input old new told after) → ServesLines first input old new before after
+  some_lines old new before told after (Ok x) tells served left = all_served told tells served
+  some_lines old new before told after (Err fault) tells served left = one_left told fault tells left
 
-lines_live : (first : List ℕ) (old new : EngineState) (before after : Option (List ℕ))
-    → ServesLines first old new before after → Lives old new
-lines_live first old new before after (all_served told tells served) = served_lives old new told after served
-lines_live first old new before after (one_left told fault tells left) = left_lives old new told after fault left
-lines_live first old new before after (not_begun fault is left) =
-    subst (λ (s : EngineState). Lives old s) (sym is) (runs_none EventFits IsAnyReply old)
+  lines_live : (old new : EngineState) (before after : Option (List ℕ))
+      → ServesLines first input old new before after → Lives old new
+  lines_live old new before after (all_served told tells all) =
+      served_lives all.lines old new told after all.served
+  lines_live old new before after (one_left told fault tells left) = left_lives input old new told after fault left
+  lines_live old new before after (not_begun fault is left) = same_lives old new is
 
-pub by_lines : (first : List ℕ) (old end new : EngineState) (before after : Option (List ℕ))
-    → ServesLines first old end before after → RunsBy IsOfClosing IsAnyReply end new
-    → LivesByLines first old new before after
-by_lines first old end new before after served closed = record {
-  end = end;
-  served = served;
-  closed = closed;
-}
+  pub by_lines : (old end new : EngineState) (before after : Option (List ℕ))
+      → ServesLines first input old end before after → RunsBy IsOfClosing IsAnyReply end new
+      → LivesByLines first input old new before after
+  by_lines old end new before after served closed = record {
+    end = end;
+    served = served;
+    closed = closed;
+  }
 
-pub by_lines_lives : (first : List ℕ) (old end new : EngineState) (before after : Option (List ℕ))
-    → ServesLines first old end before after → RunsBy IsOfClosing IsAnyReply end new → Lives old new
-by_lines_lives first old end new before after served closed =
-    runs_then EventFits IsAnyReply old end new (lines_live first old end before after served)
-    (closing_lives end new closed)
+  pub by_lines_lives : (old end new : EngineState) (before after : Option (List ℕ))
+      → ServesLines first input old end before after → RunsBy IsOfClosing IsAnyReply end new → Lives old new
+  by_lines_lives old end new before after served closed =
+      runs_then EventFits IsAnyReply old end new (lines_live old end before after served)
+      (closing_lives end new closed)

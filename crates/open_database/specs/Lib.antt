@@ -9,6 +9,7 @@ pub mod FirstLine
 pub mod Found
 pub mod Kept
 pub mod LeftOut
+pub mod Lines
 pub mod MadeFiles
 pub mod Master
 pub mod MovedAside

@@ -1,5 +1,5 @@
 -- The lines of an open database, and what is written of them.
-use Rattle.std.specs.Prelude.{ℕ, ◌≡◌, ◌<◌, List, [], ◌∷◌, ◌++◌, Option, Some, None, length, take}
+use Rattle.std.specs.Prelude.{ℕ, ◌≡◌, ◌+◌, ◌<◌, List, [], ◌∷◌, ◌++◌, Option, Some, None, length, take}
 use Rattle.std.specs.Prelude.{Result, Ok, Err, codes}
 use Rattle.std.specs.Fmt.{decimal}
 use Rattle.std.specs.Io.KnownBytes.{Appends, Keeps}
@@ -10,14 +10,18 @@ use Rattle.engine_calls.specs.declared.event.Event.{Event}
 use Rattle.engine_calls.specs.declared.refusal.Refusal.{Refusal}
 use Rattle.engine_rules.specs.EngineState.{EngineState}
 use Rattle.engine_rules.specs.Run.{Run}
-use Rattle.event_script.specs.Script.{said_in}
+use Rattle.event_script.specs.Read.{IsText}
+use Rattle.event_script.specs.Script.{IsFirstBad, said_in}
 use Rattle.event_script.specs.Words.{lines_of}
+use Rattle.event_script.specs.declared.script.LastRestore.{LastRestore}
 use Rattle.saved_files.specs.Folder.{Entries}
 use Rattle.open_database.specs.Calls.{IsAnyReply, IsOfClosing, Makes, RunsBy, SaysOf}
+use Rattle.open_database.specs.Lines.{AreAllLines, AreFirstLines, Line, too_long, unended, whole}
 use Rattle.open_database.specs.MadeFiles.{HasPlaced, HasStored, IsInPlace, IsStoredFor}
 use Rattle.open_database.specs.Said.{said_line}
-use Rattle.open_database.specs.Words.{MakesWord, SaysOfWord, Spells, Told, text_of}
+use Rattle.open_database.specs.Words.{BeginsAsWord, MakesWord, SaysOfWord, Spells, Told, text_of}
 use Rattle.open_database.specs.declared.bad_call.LineTrouble.{LineTrouble}
+use Rattle.open_database.specs.declared.bad_call.LineTrouble.TheVariants as trouble
 use Rattle.open_database.specs.declared.order.Order.{Order}
 use Rattle.open_database.specs.declared.order.Order.TheVariants as order
 use Rattle.open_database.specs.declared.said.Said.{Said}
@@ -44,6 +48,30 @@ abbrev pub Says : List ℕ → Option Order → Type 0
 Says line None = SaysCall line None
 Says line (Some (order.Call event)) = SaysCall line (Some event)
 Says line (Some (order.Word word)) = Spells line word
+
+-- a line is none of these, for this reason: read as a script it is bad, or a restore, which an open
+-- database has not; or it is no text; or it begins as a word of an operator
+abbrev pub IsNoOrder : List ℕ → LineTrouble → Type 0
+IsNoOrder line (trouble.Bad why) = (number : ℕ) × IsFirstBad (lines_of line) number
+IsNoOrder line trouble.Restore =
+    (events : List Event) × (last : LastRestore)
+    × (said_in (lines_of line) ≡ Some (events, Some last))
+IsNoOrder line trouble.NoText = ¬ IsText line
+IsNoOrder line trouble.NotAlone = BeginsAsWord line
+IsNoOrder line trouble.NoCopyWord = BeginsAsWord line
+IsNoOrder line trouble.TooLong = ⊥
+IsNoOrder line trouble.Unended = ⊥
+
+-- what was read as a line says this, or is no order for this reason: one that is whole an order or
+-- nothing, and one that no line feed ends nothing
+abbrev pub LineSays : Line → Result (Option Order) LineTrouble → Type 0
+LineSays (whole bytes) (Ok said) = Says bytes said
+LineSays (whole bytes) (Err why) = IsNoOrder bytes why
+LineSays (unended bytes) (Ok None) = SaysCall bytes None
+LineSays (unended bytes) (Ok (Some order)) = ⊥
+LineSays (unended bytes) (Err why) = why ≡ trouble.Unended
+LineSays too_long (Ok said) = ⊥
+LineSays too_long (Err why) = why ≡ trouble.TooLong
 
 -- what is written of a line that is no call, by its number and for this reason
 abbrev pub bad_line : ℕ → List ℕ → List ℕ
@@ -128,70 +156,101 @@ LeavesTaken number (Err why) old new entries is_stored before after fault =
 
 -- ---- all lines
 
--- lines were taken one after another, and these calls of the engine were made for them, with these
--- replies: of each call that a line says, what is said of its replies was written, so was what is
--- told of each word, and of each line that is neither, that it is none
+-- these lines were taken one after another, and these calls of the engine were made for them, with
+-- these replies: of each call that a line says, what is said of its replies was written, so was what
+-- is told of each word, of a line that says nothing nothing, and of each one that is neither, that it
+-- is none
 pub data Tells (before : Option (List ℕ))
-    : List Event → List (Result Answer Refusal) → Option (List ℕ) → Type 0 where
-  nothing_told : Tells before [] [] before
-  call_told : (events made : List Event) (replies given : List (Result Answer Refusal))
-      (text after : Option (List ℕ)) (line : List ℕ) (event : Event) (said : Said)
-      → Tells before events replies text → SaysCall line (Some event)
+    : List Line → List Event → List (Result Answer Refusal) → Option (List ℕ) → Type 0 where
+  nothing_told : Tells before [] [] [] before
+  silent : (lines : List Line) (events : List Event) (replies : List (Result Answer Refusal))
+      (text : Option (List ℕ)) (line : Line)
+      → Tells before lines events replies text → LineSays line (Ok None)
+      → Tells before (lines ++ line ∷ []) events replies text
+  call_told : (lines : List Line) (events made : List Event)
+      (replies given : List (Result Answer Refusal)) (text after : Option (List ℕ)) (line : Line)
+      (event : Event) (said : Said)
+      → Tells before lines events replies text → LineSays line (Ok (Some (order.Call event)))
       → SaysOf event made given said → Appends text after (said_line said)
-      → Tells before (events ++ made) (replies ++ given) after
-  word_told : (events made : List Event) (replies given : List (Result Answer Refusal))
-      (text after : Option (List ℕ)) (line : List ℕ) (word : Word) (told : Told)
-      → Tells before events replies text → Spells line word
+      → Tells before (lines ++ line ∷ []) (events ++ made) (replies ++ given) after
+  word_told : (lines : List Line) (events made : List Event)
+      (replies given : List (Result Answer Refusal)) (text after : Option (List ℕ)) (line : Line)
+      (word : Word) (told : Told)
+      → Tells before lines events replies text → LineSays line (Ok (Some (order.Word word)))
       → SaysOfWord word made given told → Appends text after (text_of told)
-      → Tells before (events ++ made) (replies ++ given) after
-  bad_told : (events : List Event) (replies : List (Result Answer Refusal))
-      (text after : Option (List ℕ)) (number : ℕ)
-      → Tells before events replies text → WritesBad number text after
-      → Tells before events replies after
+      → Tells before (lines ++ line ∷ []) (events ++ made) (replies ++ given) after
+  bad_told : (lines : List Line) (events : List Event) (replies : List (Result Answer Refusal))
+      (text after : Option (List ℕ)) (line : Line) (why : LineTrouble)
+      → Tells before lines events replies text → LineSays line (Err why)
+      → WritesBad (1 + length lines) text after
+      → Tells before (lines ++ line ∷ []) events replies after
 
 -- the engine ran by the calls of the lines that were taken, and its replies were told
-pub record Serves (old new : EngineState) (before after : Option (List ℕ)) : Type 0 where
+pub record Serves (lines : List Line) (old new : EngineState) (before after : Option (List ℕ))
+    : Type 0 where
   pub events : List Event
   pub replies : List (Result Answer Refusal)
   pub fit : All EventFits events
   pub run : Run old events replies new
-  pub told : Tells before events replies after
+  pub told : Tells before lines events replies after
 
--- how the last line was left: it was not read, or not taken for want of memory; its call was made,
--- or those of its word, and not told; or it is neither, and that was not told
-pub data LeavesLast (old new : EngineState) (before after : Option (List ℕ)) (fault : ServeFault)
-    : Type 0 where
-  not_taken : new ≡ old → after ≡ before → LeavesLast old new before after fault
-  not_told : (event : Event) (said : Said) → Makes event old said new
-      → LeavesLine before after (said_line said) fault → LeavesLast old new before after fault
-  word_not_told : (word : Word) (told : Told) → MakesWord word old told new
-      → LeavesLine before after (text_of told) fault → LeavesLast old new before after fault
-  bad_not_told : (number : ℕ) → new ≡ old → LeavesBad number before after fault
-      → LeavesLast old new before after fault
+-- all lines of an input were taken
+pub record ServesAll (input : Option (List ℕ)) (old new : EngineState)
+    (before after : Option (List ℕ)) : Type 0 where
+  pub lines : List Line
+  pub all : AreAllLines input lines
+  pub served : Serves lines old new before after
 
--- lines were taken, and then one was left
-pub record LeavesServed (old new : EngineState) (before after : Option (List ℕ))
-    (fault : ServeFault) : Type 0 where
+-- how the line of this number was left: it was not taken, for want of memory; its call was made, or
+-- those of its word, and not told; or it is neither, and that was not told
+pub data LeavesLast (line : Line) (number : ℕ) (old new : EngineState)
+    (before after : Option (List ℕ)) (fault : ServeFault) : Type 0 where
+  not_taken : fault ≡ OutOfMemory → new ≡ old → after ≡ before
+      → LeavesLast line number old new before after fault
+  not_told : (event : Event) (said : Said) → LineSays line (Ok (Some (order.Call event)))
+      → Makes event old said new → LeavesLine before after (said_line said) fault
+      → LeavesLast line number old new before after fault
+  word_not_told : (word : Word) (told : Told) → LineSays line (Ok (Some (order.Word word)))
+      → MakesWord word old told new → LeavesLine before after (text_of told) fault
+      → LeavesLast line number old new before after fault
+  bad_not_told : (why : LineTrouble) → LineSays line (Err why) → new ≡ old
+      → LeavesBad number before after fault
+      → LeavesLast line number old new before after fault
+
+-- behind the first lines of an input the next one was left, or it was not read
+pub data LeavesNext (input : Option (List ℕ)) (lines : List Line) (old new : EngineState)
+    (before after : Option (List ℕ)) (fault : ServeFault) : Type 0 where
+  not_read : AreFirstLines input lines → fault ≡ ReadFault → new ≡ old → after ≡ before
+      → LeavesNext input lines old new before after fault
+  next_left : (line : Line) → AreFirstLines input (lines ++ line ∷ [])
+      → LeavesLast line (1 + length lines) old new before after fault
+      → LeavesNext input lines old new before after fault
+
+-- lines of an input were taken, and then the next one was left
+pub record LeavesServed (input : Option (List ℕ)) (old new : EngineState)
+    (before after : Option (List ℕ)) (fault : ServeFault) : Type 0 where
+  pub lines : List Line
   pub engine : EngineState
   pub written : Option (List ℕ)
-  pub served : Serves old engine before written
-  pub last : LeavesLast engine new written after fault
+  pub served : Serves lines old engine before written
+  pub next : LeavesNext input lines engine new written after fault
 
--- the first line was written, and then lines were taken to the end, or up to one that was left; or
--- that line was not written, or not all of it, and no line was taken
-pub data ServesLines (first : List ℕ) (old new : EngineState) (before after : Option (List ℕ))
-    : Type 0 where
-  all_served : (told : Option (List ℕ)) → Appends before told first → Serves old new told after
-      → ServesLines first old new before after
+-- the first line was written, and then the lines of an input were taken, all of them or up to one
+-- that was left; or that line was not written, or not all of it, and no line was taken
+pub data ServesLines (first : List ℕ) (input : Option (List ℕ)) (old new : EngineState)
+    (before after : Option (List ℕ)) : Type 0 where
+  all_served : (told : Option (List ℕ)) → Appends before told first
+      → ServesAll input old new told after → ServesLines first input old new before after
   one_left : (told : Option (List ℕ)) (fault : ServeFault) → Appends before told first
-      → LeavesServed old new told after fault → ServesLines first old new before after
+      → LeavesServed input old new told after fault
+      → ServesLines first input old new before after
   not_begun : (fault : ServeFault) → new ≡ old → LeavesLine before after first fault
-      → ServesLines first old new before after
+      → ServesLines first input old new before after
 
--- an engine ran by the calls of such lines, and that was written; and then the log was forced and
--- pages were written, and no other call was made
-pub record LivesByLines (first : List ℕ) (old new : EngineState)
+-- an engine ran by the calls of the lines of such an input, and that was written; and then the log
+-- was forced and pages were written, and no other call was made
+pub record LivesByLines (first : List ℕ) (input : Option (List ℕ)) (old new : EngineState)
     (before after : Option (List ℕ)) : Type 0 where
   pub end : EngineState
-  pub served : ServesLines first old end before after
+  pub served : ServesLines first input old end before after
   pub closed : RunsBy IsOfClosing IsAnyReply end new

@@ -2,7 +2,7 @@
 use Rattle.std.specs.Prelude.{ℕ, ◌≡◌, List, [], ◌∷◌, ◌++◌, Option, Some, None, Result, Ok, Err}
 use Rattle.std.specs.Prelude.{codes}
 use Rattle.std.specs.Fmt.{decimal}
-use Rattle.std.specs.List.{All, sum_by}
+use Rattle.std.specs.List.{All, Contains, sum_by}
 use Rattle.std.specs.Str.{IsTrimAscii}
 use Rattle.engine_calls.specs.EventFits.{EventFits}
 use Rattle.engine_calls.specs.declared.event.Answer.{Answer}
@@ -42,6 +42,21 @@ SpellsText line text = IsTrimAscii line text
 -- and a word
 abbrev pub Spells : List ℕ → Word → Type 0
 Spells line word = (text : List ℕ) × SpellsText line text × IsSpelled text word
+
+-- the first words of those
+abbrev pub first_words : List (List ℕ)
+first_words =
+    codes "checkpoint" ∷ codes "flush" ∷ codes "copy" ∷ codes "status" ∷ codes "help"
+    ∷ codes "quit" ∷ []
+
+-- a line begins as a word does
+pub record BeginsAsWord (line : List ℕ) : Type 0 where
+  pub text : List ℕ
+  pub spelled : SpellsText line text
+  pub first : List ℕ
+  pub is_first : Contains first_words first
+  pub rest : List ℕ
+  pub begins : text ≡ first ++ rest
 
 -- ---- what is told
 

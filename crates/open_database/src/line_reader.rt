@@ -1,6 +1,6 @@
 //! Reads lines one at a time, as they come.
 
-ghost use Rattle.std.specs.Prelude.{◌<◌, vec_len};
+ghost use Rattle.std.specs.Prelude.{◌≡◌, ◌<◌, ◌≤◌, if◌then◌else◌, vec_len};
 
 use crate::word::is_quit;
 use page_core::{Turn, read_more, zeros};
@@ -45,10 +45,19 @@ pub(crate) struct LineReader<R> {
     filled: usize,
     line: Vec<u8>,
     ghost has_room: { 0 < vec_len piece },
+    ghost is_within: { filled ≤ vec_len piece },
+    ghost has_line: { vec_len line ≡ 1024 },
 }
 
 impl<R: Read + Drop> LineReader<R> {
-    pub fn new(alloc: Global, reader: R) -> Result<LineReader<R>, AllocError> {
+    ghost use Rattle.std.specs.Prelude.{ℕ, ◌++◌, ◌∷◌, [], Bool, IfOk, List, length, not, take};
+    ghost use Rattle.std.specs.Prelude.{◌||◌};
+    ghost use Rattle.open_database.specs.Lines.{GivesByte, GivesLine, GivesUntilQuit, IsReadSoFar};
+    ghost use Rattle.open_database.specs.Lines.{bytes_left};
+
+    pub fn new(alloc: Global, reader: R) -> Result<LineReader<R>, AllocError>
+        ensures { IfOk result (λ lines. bytes_left R.remaining lines ≡ R.remaining reader) }
+    {
         Ok(LineReader {
             reader,
             piece: zeros(alloc, PIECE_BYTES)?,
@@ -59,12 +68,18 @@ impl<R: Read + Drop> LineReader<R> {
     }
 
     /// The first bytes of the line that was read last.
-    pub fn line(&self, len: usize) -> &[u8] {
-        self.line.as_slice().get(..len).unwrap_or(&[])
+    pub fn line(&self, len: usize) -> &[u8]
+        requires { len ≤ length self.now.line.items }
+        ensures { result.now ≡ take len self.now.line.items }
+    {
+        &self.line[..len]
     }
 
     /// Reads the next line, to its line feed.
-    pub fn next_line(&mut self) -> NextLine {
+    pub fn next_line(&mut self) -> NextLine
+        ensures { GivesLine (bytes_left R.remaining self.old) (bytes_left R.remaining self.new)
+            self.new.line.items result }
+    {
         let mut len = 0usize;
         let mut is_long = false;
         for _ in 0..u64::MAX {
@@ -81,7 +96,10 @@ impl<R: Read + Drop> LineReader<R> {
     }
 
     /// Reads the next line. One that says to quit is as the end of the input.
-    pub fn next_until_quit(&mut self) -> NextLine {
+    pub fn next_until_quit(&mut self) -> NextLine
+        ensures { GivesUntilQuit (bytes_left R.remaining self.old) (bytes_left R.remaining self.new)
+            self.new.line.items result }
+    {
         match self.next_line() {
             NextLine::Line(len) if is_quit(self.line(len)) => NextLine::End,
             next => next,
@@ -89,7 +107,13 @@ impl<R: Read + Drop> LineReader<R> {
     }
 
     /// Puts a byte behind the first ones of the line, if there is room.
-    fn put(&mut self, len: &mut usize, byte: u8) -> bool {
+    fn put(&mut self, len: &mut usize, byte: u8) -> bool
+        ensures put { (is_long : Bool) (bytes : List ℕ)
+            → IsReadSoFar self.old.line.items len.old is_long bytes
+            → IsReadSoFar self.new.line.items len.new (not result || is_long)
+            (bytes ++ (byte ∷ [])) }
+        ensures left { bytes_left R.remaining self.new ≡ bytes_left R.remaining self.old }
+    {
         match self.line.get_mut(*len) {
             Some(place) => {
                 *place = byte;
@@ -100,12 +124,14 @@ impl<R: Read + Drop> LineReader<R> {
         }
     }
 
-    fn next_byte(&mut self) -> NextByte {
+    fn next_byte(&mut self) -> NextByte
+        ensures byte { GivesByte (bytes_left R.remaining self.old)
+            (bytes_left R.remaining self.new) result }
+        ensures line { self.new.line ≡ self.old.line }
+    {
         for _ in 0..u64::MAX {
-            if self.next < self.filled
-                && let Some(byte) = self.piece.get(self.next)
-            {
-                let byte = *byte;
+            if self.next < self.filled {
+                let byte = self.piece[self.next];
                 self.next += 1;
                 return NextByte::Byte(byte);
             }
@@ -122,7 +148,9 @@ impl<R: Read + Drop> LineReader<R> {
     }
 }
 
-fn line_of(len: usize, is_long: bool) -> NextLine {
+fn line_of(len: usize, is_long: bool) -> NextLine
+    ensures { result ≡ (if is_long then NextLine.TooLong else NextLine.Line len) }
+{
     if is_long {
         NextLine::TooLong
     } else {

@@ -83,9 +83,9 @@ pub enum OpenEnd {
 pub fn open_folder(rt: &HostRuntime, call: &OpenCall<'_>) -> OpenEnd
     requires pages { IfSome call.now.pages IsPageCount }
     requires frames { IsFrameCount call.now.frames }
-    // Of the system's folder and output nothing is known.
+    // Of the system's folder, input and output nothing is known.
     ensures { result ≢ Failed → (written : Option (List ℕ))
-        × LivedByLines None call.now.salvage call.now.pages call.now.frames None written }
+        × LivedByLines None None call.now.salvage call.now.pages call.now.frames None written }
 {
     // Where a standard stream is closed, a file of the database must not get its number.
     let _held = held(rt);
@@ -125,12 +125,14 @@ pub fn open_in<F: DatabaseFolder + Drop, R: Read, W: Write>(
 ) -> OpenEnd
     requires pages { IfSome call.now.pages IsPageCount }
     requires frames { IsFrameCount call.now.frames }
-    ensures lived { result ≢ Failed → LivedByLines (F.entries folder) call.now.salvage call.now.pages
-        call.now.frames (W.contents output.old) (W.contents output.new) }
+    ensures lived { result ≢ Failed → LivedByLines (F.entries folder) (R.remaining input.old)
+        call.now.salvage call.now.pages call.now.frames
+        (W.contents output.old) (W.contents output.new) }
     // Where it failed, too, nothing else was written.
     ensures told { (W.contents output.new ≡ W.contents output.old)
-        ⊎ LivedByLines (F.entries folder) call.now.salvage call.now.pages
-        call.now.frames (W.contents output.old) (W.contents output.new) }
+        ⊎ LivedByLines (F.entries folder) (R.remaining input.old)
+        call.now.salvage call.now.pages call.now.frames
+        (W.contents output.old) (W.contents output.new) }
 {
     let notes = Notes::new();
     let streams = StreamNotes {
@@ -159,8 +161,8 @@ fn lived_on<'a, F: DatabaseFolder + Drop, R: Read + Drop, W: Write + Drop>(
     requires pages { IfSome call.now.pages IsPageCount }
     requires frames { IsFrameCount call.now.frames }
     ensures { result ≢ Failed → (written : Option (List ℕ))
-        × LivedByLines (F.entries folder) call.now.salvage call.now.pages
-        call.now.frames (W.contents streams.entry.output) written }
+        × LivedByLines (F.entries folder) (R.remaining streams.entry.input) call.now.salvage
+        call.now.pages call.now.frames (W.contents streams.entry.output) written }
 {
     let Streams {
         mut input,
@@ -190,11 +192,13 @@ fn lived<'a, F: DatabaseFolder + Drop, R: Read, W: Write>(
 ) -> OpenEnd
     requires pages { IfSome call.now.pages IsPageCount }
     requires frames { IsFrameCount call.now.frames }
-    ensures lived { result ≢ Failed → LivedByLines (F.entries folder) call.now.salvage call.now.pages
-        call.now.frames (W.contents output.old) (W.contents output.new) }
+    ensures lived { result ≢ Failed → LivedByLines (F.entries folder) (R.remaining input.old)
+        call.now.salvage call.now.pages call.now.frames
+        (W.contents output.old) (W.contents output.new) }
     ensures told { (W.contents output.new ≡ W.contents output.old)
-        ⊎ LivedByLines (F.entries folder) call.now.salvage call.now.pages
-        call.now.frames (W.contents output.old) (W.contents output.new) }
+        ⊎ LivedByLines (F.entries folder) (R.remaining input.old)
+        call.now.salvage call.now.pages call.now.frames
+        (W.contents output.old) (W.contents output.new) }
 {
     match session_in(teller, folder, notes, call) {
         Ok(
@@ -373,10 +377,11 @@ fn live<F: DatabaseFolder, S: PageStore, D: LogDevice + TellsWhy, R: Read, W: Wr
 )
     requires { F.is_claimed session.old.folder }
     ensures lives { Lives session.old.engine.state session.new.engine.state }
-    // The calls are those of the lines, and those of a closing; what was written is the first line,
-    // and then what is said of the calls of the lines.
-    ensures lines { LivesByLines (first_line begun.0) session.old.engine.state
-        session.new.engine.state (W.contents output.old) (W.contents output.new) }
+    // The calls are those of the lines of the input, and those of a closing; what was written is
+    // the first line, and then what is said of the calls of the lines.
+    ensures lines { LivesByLines (first_line begun.0) (R.remaining input.old)
+        session.old.engine.state session.new.engine.state
+        (W.contents output.old) (W.contents output.new) }
 {
     let (first, point) = begun;
     warn_of_room(session);
@@ -431,8 +436,9 @@ fn serve_all<F: DatabaseFolder, S: PageStore, D: LogDevice + TellsWhy, R: Read, 
     output: &mut W,
 ) -> Result<(), ServeFault>
     requires { F.is_claimed session.old.folder }
-    ensures served { ServesLines (first_line first) session.old.engine.state
-        session.new.engine.state (W.contents output.old) (W.contents output.new) }
+    ensures served { ServesLines (first_line first) (R.remaining input.old)
+        session.old.engine.state session.new.engine.state
+        (W.contents output.old) (W.contents output.new) }
     ensures claimed { F.is_claimed session.new.folder }
 {
     let Ok(mut lines) = LineReader::new(session.alloc, input) else {

@@ -1,7 +1,8 @@
 //! What a line of an open database says.
 
-ghost use Rattle.std.specs.Prelude.{IfOk};
-ghost use Rattle.open_database.specs.Session.{Says, SaysCall};
+ghost use Rattle.std.specs.Prelude.{IfOk, MatchResult};
+ghost use Rattle.open_database.specs.Lines.{unended, whole};
+ghost use Rattle.open_database.specs.Session.{IsNoOrder, LineSays, SaysCall};
 
 use crate::bad_call::LineTrouble;
 use crate::word::{Word, word_in};
@@ -23,7 +24,7 @@ pub(crate) fn said_in(
     alloc: Global,
     line: &[u8],
 ) -> Result<Result<Option<Order>, LineTrouble>, AllocError>
-    ensures { IfOk result (λ it. IfOk it (Says line.now)) }
+    ensures { IfOk result (λ it. LineSays (whole line.now) it) }
 {
     match word_in(line) {
         Some(Ok(word)) => Ok(Ok(Some(Order::Word(word)))),
@@ -42,7 +43,7 @@ pub(crate) fn said_unended(
     alloc: Global,
     line: &[u8],
 ) -> Result<Result<Option<Order>, LineTrouble>, AllocError>
-    ensures { IfOk result (λ it. IfOk it (Says line.now)) }
+    ensures { IfOk result (λ it. LineSays (unended line.now) it) }
 {
     match said_in(alloc, line)? {
         Ok(None) => Ok(Ok(None)),
@@ -52,14 +53,15 @@ pub(crate) fn said_unended(
 
 /// What a line of a script says: a call, or nothing.
 fn call_in(alloc: Global, line: &[u8]) -> Result<Result<Option<Event>, LineTrouble>, AllocError>
-    ensures { IfOk result (λ it. IfOk it (SaysCall line.now)) }
+    ensures { IfOk result (λ it. MatchResult it (SaysCall line.now) (IsNoOrder line.now)) }
 {
     let mut bytes = line;
     Ok(match read_script(alloc, &mut bytes) {
         Ok(script) if script.restore.is_some() => Err(LineTrouble::Restore),
         Ok(script) => Ok(script.events.first().copied()),
         Err(ScriptFault::BadLine(_, why)) => Err(LineTrouble::Bad(why)),
-        Err(ScriptFault::Input | ScriptFault::ReadFault) => Err(LineTrouble::NoText),
-        Err(ScriptFault::OutOfMemory) => return Err(AllocError),
+        Err(ScriptFault::Input) => Err(LineTrouble::NoText),
+        // Bytes in memory are read without a fault.
+        Err(ScriptFault::OutOfMemory | ScriptFault::ReadFault) => return Err(AllocError),
     })
 }

@@ -1,11 +1,12 @@
 //! The lines of an open database: each is a call of its engine, and is answered at once.
 
-ghost use Rattle.std.specs.Prelude.{◌≡◌, IfErr, IfOk, OnOk};
+ghost use Rattle.std.specs.Prelude.{◌≡◌, IfErr, OnOk};
 ghost use Rattle.open_database.specs.Calls.{Makes};
 ghost use Rattle.open_database.specs.MadeFiles.{IsGiven, IsInPlace, IsStoredFor, StandsOnPlaced};
 ghost use Rattle.open_database.specs.MadeFiles.{WaitsFor};
+ghost use Rattle.open_database.specs.Lines.{bytes_left};
 ghost use Rattle.open_database.specs.Session.{Answers, LeavesAnswer, LeavesBad, LeavesServed};
-ghost use Rattle.open_database.specs.Session.{LeavesTaken, Says, Serves, Takes, WritesBad};
+ghost use Rattle.open_database.specs.Session.{LeavesTaken, ServesAll, Takes, WritesBad};
 
 use crate::bad_call::{BadCall, LineTrouble};
 use crate::call_kind::CallKind;
@@ -43,6 +44,11 @@ pub(crate) enum ServeFault {
 }
 
 impl From<AllocError> for ServeFault {
+    ghost use Rattle.std.specs.Prelude.{◌≡◌};
+    ghost use Rattle.open_database.specs.declared.session.ServeFault.TheVariants.{OutOfMemory};
+
+    ghost from_gives = { λ _ e. e ≡ OutOfMemory };
+
     fn from(_error: AllocError) -> ServeFault {
         ServeFault::OutOfMemory
     }
@@ -114,7 +120,7 @@ fn write_bad<W: Write>(
 impl<F: DatabaseFolder, S: PageStore, D: LogDevice + TellsWhy> Session<'_, F, S, D> {
     /// Takes the lines of the input one after another, to its end, or to a `quit`. Each is answered
     /// by one line or more, but for those that say nothing. The manifest names a file that a line put
-    /// in place once that line is answered.
+    /// in place once that line is answered. After 2^64 - 2 lines it gives up.
     pub fn serve<R: Read + Drop, W: Write>(
         &mut self,
         lines: &mut LineReader<R>,
@@ -122,9 +128,11 @@ impl<F: DatabaseFolder, S: PageStore, D: LogDevice + TellsWhy> Session<'_, F, S,
         kept: &mut KeptManifest,
     ) -> Result<(), ServeFault>
         requires { F.is_claimed self.old.folder }
-        ensures served { OnOk result (Serves self.old.engine.state self.new.engine.state
+        ensures served { OnOk result (ServesAll (bytes_left R.remaining lines.old)
+            self.old.engine.state self.new.engine.state
             (W.contents writer.old) (W.contents writer.new)) }
-        ensures left { IfErr result (LeavesServed self.old.engine.state self.new.engine.state
+        ensures left { IfErr result (LeavesServed (bytes_left R.remaining lines.old)
+            self.old.engine.state self.new.engine.state
             (W.contents writer.old) (W.contents writer.new)) }
         ensures claimed { F.is_claimed self.new.folder }
     {
@@ -146,7 +154,7 @@ impl<F: DatabaseFolder, S: PageStore, D: LogDevice + TellsWhy> Session<'_, F, S,
             }
             self.keep_placed(kept);
         }
-        Ok(())
+        Err(ServeFault::ReadFault)
     }
 
     /// Takes the line of this number, which says this.
@@ -157,8 +165,7 @@ impl<F: DatabaseFolder, S: PageStore, D: LogDevice + TellsWhy> Session<'_, F, S,
         said: Result<Option<Order>, LineTrouble>,
         writer: &mut W,
     ) -> Result<(), ServeFault>
-        requires claimed { F.is_claimed self.old.folder }
-        requires says { IfOk said (Says line.now) }
+        requires { F.is_claimed self.old.folder }
         ensures taken { OnOk result (Takes number said self.old.engine.state
             self.new.engine.state (F.entries self.new.folder) (F.is_stored self.new.folder)
             (W.contents writer.old) (W.contents writer.new)) }

@@ -1,8 +1,10 @@
 //! Words of an operator, which no script has.
 
-ghost use Rattle.std.specs.Prelude.{◌≡◌, IfOk, IfSome, IsTrue, Some, codes};
+ghost use Rattle.std.specs.Prelude.{ℕ, ◌≡◌, ◌↔◌, ◌++◌, List, IfSome, IsTrue, MatchResult, Some, codes};
+ghost use Rattle.std.specs.List.{Contains};
 ghost use Rattle.event_script.specs.Words.{number_of};
-ghost use Rattle.open_database.specs.Words.{IsSpelled, Spells, SpellsText};
+ghost use Rattle.open_database.specs.Session.{IsNoOrder};
+ghost use Rattle.open_database.specs.Words.{BeginsAsWord, IsSpelled, Spells, SpellsText, first_words};
 
 use crate::bad_call::LineTrouble;
 
@@ -26,7 +28,7 @@ pub(crate) enum Word {
 
 /// The word that a line says, or what is wrong with a line whose first word is one.
 pub(crate) fn word_in(line: &[u8]) -> Option<Result<Word, LineTrouble>>
-    ensures { IfSome result (λ it. IfOk it (Spells line.now)) }
+    ensures { IfSome result (λ it. MatchResult it (Spells line.now) (IsNoOrder line.now)) }
 {
     let text = line.trim_ascii();
     if let Some(word) = lone_word(text) {
@@ -37,7 +39,7 @@ pub(crate) fn word_in(line: &[u8]) -> Option<Result<Word, LineTrouble>>
 
 /// Whether a line ends the input.
 pub(crate) fn is_quit(line: &[u8]) -> bool
-    ensures { IsTrue result → SpellsText line.now (codes "quit") }
+    ensures { IsTrue result ↔ SpellsText line.now (codes "quit") }
 {
     line.trim_ascii() == b"quit".as_slice()
 }
@@ -89,18 +91,27 @@ fn copy_number(digits: &[u8]) -> Option<u32>
 }
 
 /// What stands before the first space.
-fn first_word(text: &[u8]) -> &[u8] {
+fn first_word(text: &[u8]) -> &[u8]
+    ensures { (rest : List ℕ) × (text.now ≡ result.now ++ rest) }
+{
     match text.iter().position(|byte| *byte == b' ') {
-        Some(end) => text.get(..end).unwrap_or(&[]),
+        Some(end) => &text[..end],
         None => text,
     }
 }
 
 /// What is wrong with a line that begins with this and is no word, if a word does.
-fn trouble_of(first: &[u8]) -> Option<LineTrouble> {
-    match first {
-        b"checkpoint" | b"flush" | b"status" | b"help" | b"quit" => Some(LineTrouble::NotAlone),
-        b"copy" => Some(LineTrouble::NoCopyWord),
-        _ => None,
+fn trouble_of(first: &[u8]) -> Option<LineTrouble>
+    ensures { IfSome result (λ why. Contains first_words first.now
+        × ((line : List ℕ) → BeginsAsWord line → IsNoOrder line why)) }
+{
+    if first == b"copy".as_slice() {
+        return Some(LineTrouble::NoCopyWord);
     }
+    let is_lone = first == b"checkpoint".as_slice()
+        || first == b"flush".as_slice()
+        || first == b"status".as_slice()
+        || first == b"help".as_slice()
+        || first == b"quit".as_slice();
+    is_lone.then_some(LineTrouble::NotAlone)
 }

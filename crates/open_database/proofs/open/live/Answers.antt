@@ -7,11 +7,12 @@ use Rattle.open_database.proofs.open.live.Goals as goal
 use Rattle.open_database.proofs.open.live.Goals.{After-close}
 
 served : (g : _) (c : After-close g)
-    → ServesLines (first_line c.args.begun.0) c.args.session.now.engine.state
+    → ServesLines (first_line c.args.begun.0) (g.R.Read.remaining c.args.input.now) c.args.session.now.engine.state
     c.serve_all-served.new.session.engine.state (g.W.Write.contents c.args.output.now)
     (g.W.Write.contents c.serve_all-served.new.output)
 served g c =
-    subst (λ engine. ServesLines (first_line c.args.begun.0) engine.state c.serve_all-served.new.session.engine.state
+    subst (λ engine. ServesLines (first_line c.args.begun.0) (g.R.Read.remaining c.args.input.now) engine.state
+    c.serve_all-served.new.session.engine.state
     (g.W.Write.contents c.args.output.now) (g.W.Write.contents c.serve_all-served.new.output))
     (c.keep_placed.ensures.engine ∙ c.put_point.ensures.engine)
     c.serve_all-served.ensures.served
@@ -24,12 +25,12 @@ closed g c =
 
 pub returns-clause-lives : goal.returns-clause-lives
 returns-clause-lives g c =
-    by_lines_lives (first_line c.args.begun.0) c.args.session.now.engine.state
+    by_lines_lives (first_line c.args.begun.0) (g.R.Read.remaining c.args.input.now) c.args.session.now.engine.state
     c.serve_all-served.new.session.engine.state c.close.new.self.engine.state (g.W.Write.contents c.args.output.now)
     (g.W.Write.contents c.serve_all-served.new.output) (served g c) (closed g c)
 
 pub returns-clause-lines : goal.returns-clause-lines
 returns-clause-lines g c =
-    by_lines (first_line c.args.begun.0) c.args.session.now.engine.state c.serve_all-served.new.session.engine.state
+    by_lines (first_line c.args.begun.0) (g.R.Read.remaining c.args.input.now) c.args.session.now.engine.state c.serve_all-served.new.session.engine.state
     c.close.new.self.engine.state (g.W.Write.contents c.args.output.now)
     (g.W.Write.contents c.serve_all-served.new.output) (served g c) (closed g c)

@@ -1,19 +1,26 @@
+use Rattle.std.proofs.Common.{subst}
 use Rattle.open_database.proofs.Served.{no_first, no_lines, some_lines}
 use Rattle.open_database.specs.FirstLine.{first_line}
+use Rattle.open_database.specs.Session.{ServesLines}
 use Rattle.open_database.proofs.open.serve_all.Goals as goal
 
 pub returns-in_default-clause-served : goal.returns-in_default-clause-served
 returns-in_default-clause-served g c =
-    no_lines (first_line c.args.first) c.args.session.now.engine.state (g.W.Write.contents c.args.output.now)
+    no_lines (first_line c.args.first) (g.R.Read.remaining c.args.input.now) c.args.session.now.engine.state
+    (g.W.Write.contents c.args.output.now)
 
 pub returns-in-Ok-write_first-clause-served : goal.returns-in-Ok-write_first-clause-served
 returns-in-Ok-write_first-clause-served g c =
-    some_lines (first_line c.args.first) c.args.session.now.engine.state c.serve.new.self.engine.state
+    subst (λ input. ServesLines (first_line c.args.first) input c.args.session.now.engine.state
+    c.serve.new.self.engine.state (g.W.Write.contents c.args.output.now) (g.W.Write.contents c.serve.new.writer))
+    c.in-Ok.ensures
+    (some_lines (first_line c.args.first) _ c.args.session.now.engine.state c.serve.new.self.engine.state
     (g.W.Write.contents c.args.output.now) (g.W.Write.contents c.write_first.new.writer)
     (g.W.Write.contents c.serve.new.writer) c.serve.result c.in-Ok-write_first.ensures.written c.serve.ensures.served
-    c.serve.ensures.left
+    c.serve.ensures.left)
 
 pub returns-clause-served : goal.returns-clause-served
 returns-clause-served g c =
-    no_first (first_line c.args.first) c.args.session.now.engine.state (g.W.Write.contents c.args.output.now)
-    (g.W.Write.contents c.write_first.new.writer) c.in-Err.fault c.in-Err.ensures.left
+    no_first (first_line c.args.first) (g.R.Read.remaining c.args.input.now) c.args.session.now.engine.state
+    (g.W.Write.contents c.args.output.now) (g.W.Write.contents c.write_first.new.writer) c.in-Err.fault
+    c.in-Err.ensures.left
