@@ -1,6 +1,7 @@
 mod Chains
 mod CopyCalls
 mod CutLives
+mod FolderChanges
 mod Forgotten
 mod Founds
 mod Inventories

@@ -1,4 +1,4 @@
-use Rattle.open_database.proofs.SecondFolders.{finished_more}
+use Rattle.open_database.proofs.FolderChanges.{finished_more}
 use Rattle.open_database.proofs.second_folder.clear.Goals as goal
 
 pub returns-in_err-remove_unfinished-clause-kept : goal.returns-in_err-remove_unfinished-clause-kept

@@ -1,5 +1,7 @@
 use Rattle.std.specs.Prelude.{codes}
-use Rattle.open_database.proofs.SecondFolders.{is_backup, kept_left, kept_put, last_left, last_none, last_put, manifest_older}
+use Rattle.open_database.proofs.FolderChanges.{kept_left, kept_put}
+use Rattle.open_database.proofs.SecondFolders.{is_backup, last_left, last_none, last_put}
+use Rattle.open_database.proofs.SecondFolders.{manifest_older}
 use Rattle.open_database.proofs.second_folder.fill.Goals as goal
 
 pub returns-in_err-put_files-clause-last : goal.returns-in_err-put_files-clause-last

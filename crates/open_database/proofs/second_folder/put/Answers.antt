@@ -4,7 +4,7 @@ use Rattle.std.specs.Io.KnownBytes.{Appends}
 use Rattle.saved_files.specs.Folder.{Changes, PutsOrKeeps}
 use Rattle.saved_files.specs.PutFault.{bytes_by}
 use Rattle.saved_files.specs.Saved.{name_of}
-use Rattle.open_database.proofs.SecondFolders.{kept_left, left_either}
+use Rattle.open_database.proofs.FolderChanges.{kept_left, left_either}
 use Rattle.open_database.proofs.second_folder.put.Goals as goal
 
 pub returns-in-Err-Unmade-clause-others : goal.returns-in-Err-Unmade-clause-others

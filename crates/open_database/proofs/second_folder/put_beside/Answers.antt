@@ -5,7 +5,9 @@ use Rattle.saved_files.specs.Saved.{name_of}
 use Rattle.saved_files.specs.declared.saved_name.SavedName.TheVariants as saved
 use Rattle.open_database.specs.Backups.{IsBackup, IsOfSame, PutsManifestLast}
 use Rattle.open_database.specs.DatabaseFolder.{HasBytes}
-use Rattle.open_database.proofs.SecondFolders.{backup_cleared, cleared, of_same_cleared, on_ok, rest_cleared, rest_filled}
+use Rattle.open_database.proofs.FolderChanges.{on_ok}
+use Rattle.open_database.proofs.SecondFolders.{backup_cleared, cleared, of_same_cleared}
+use Rattle.open_database.proofs.SecondFolders.{rest_cleared, rest_filled}
 use Rattle.open_database.proofs.second_folder.put_beside.Goals as goal
 
 pub returns-in_err-clear-clause-rest : goal.returns-in_err-clear-clause-rest

@@ -1,5 +1,6 @@
 use Rattle.std.proofs.Common.{◌∙◌}
-use Rattle.open_database.proofs.SecondFolders.{adds_more, filling_more, notes_copy, notes_more}
+use Rattle.open_database.proofs.FolderChanges.{adds_more}
+use Rattle.open_database.proofs.SecondFolders.{filling_more, notes_copy, notes_more}
 use Rattle.open_database.proofs.second_folder.put_copies.Goals as goal
 
 pub loop-id-preserved : goal.loop-id-preserved

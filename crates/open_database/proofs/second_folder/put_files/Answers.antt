@@ -2,7 +2,8 @@ use Rattle.std.proofs.Common.{subst, sym}
 use Rattle.saved_files.specs.Saved.{name_of}
 use Rattle.saved_files.specs.declared.saved_name.SavedName.TheVariants as saved
 use Rattle.open_database.specs.DatabaseFolder.{HasBytes}
-use Rattle.open_database.proofs.SecondFolders.{all_put, copies_older, log_older, master_older, on_ok_all}
+use Rattle.open_database.proofs.FolderChanges.{on_ok_all}
+use Rattle.open_database.proofs.SecondFolders.{all_put, copies_older, log_older, master_older}
 use Rattle.open_database.proofs.second_folder.put_files.Goals as goal
 
 pub returns-clause-put : goal.returns-clause-put

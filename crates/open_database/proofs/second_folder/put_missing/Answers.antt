@@ -2,7 +2,7 @@ use Rattle.std.proofs.Common.{subst}
 use Rattle.saved_files.specs.Saved.{name_of}
 use Rattle.saved_files.specs.declared.saved_name.SavedName.TheVariants as saved
 use Rattle.open_database.specs.DatabaseFolder.{Reads}
-use Rattle.open_database.proofs.SecondFolders.{adds_one}
+use Rattle.open_database.proofs.FolderChanges.{adds_one}
 use Rattle.open_database.proofs.second_folder.put_missing.Goals as goal
 
 pub returns-in_ok-found-in-None-clause-others : goal.returns-in_ok-found-in-None-clause-others

@@ -1,4 +1,4 @@
-use Rattle.open_database.proofs.SecondFolders.{removed}
+use Rattle.open_database.proofs.FolderChanges.{removed}
 use Rattle.open_database.proofs.second_folder.remove_unfinished.Goals as goal
 
 pub returns-then-is_unfinished_backup-clause-kept : goal.returns-then-is_unfinished_backup-clause-kept
