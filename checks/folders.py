@@ -12,6 +12,7 @@ is not renewed, nor is one whose numbers need more than half of a log. What is r
 Streams that are full or closed harm no file.
 """
 
+import fcntl
 import hashlib
 import os
 import shutil
@@ -211,6 +212,30 @@ def second_folders(folders, folder, away):
         is_closed = (shop / "closed").exists() and not misnamed(files_of(shop))
         folders.wants(f"a second folder stays: {place}", is_left and is_made and is_closed, done)
     newer_folders(folders, folder)
+    open_logs(folders, folder)
+
+
+def open_logs(folders, folder):
+    """The log in the second folder is open by another name, or is that of the first folder, by a link: it stays."""
+    shop, away = folders.copied(folder, "shop of the links"), folders.place / "a disk of its own"
+    away.mkdir()
+    told = ("E29 WriteFault 0", f"imgcopy: {away}/log: another one has this log open")
+    (shop / "log").rename(away / "log")
+    (shop / "log").symlink_to(away / "log")
+    before = sums_of(away)
+    done = folders.run("backup", shop, "--full", "--into", away)
+    folders.says("a log that two folders have", done, 2, done.stdout.decode(), *told)
+    folders.wants("it stays", set(sums_of(away)) == set(before) and (shop / "log").is_symlink(), done)
+    (shop / "log").unlink()
+    shutil.copy(away / "log", shop / "log")
+    before = sums_of(away)
+    with open(away / "log", "rb") as held:
+        fcntl.flock(held, fcntl.LOCK_EX)
+        done = folders.run("backup", shop, "--full", "--into", away)
+    folders.says("a log that another one has open", done, 2, done.stdout.decode(), *told)
+    folders.wants("it stays, too", sums_of(away) == before, done)
+    done = folders.run("backup", shop, "--full", "--into", away)
+    folders.wants("a log that is closed", done.returncode == 0, done)
 
 
 def newer_folders(folders, folder):
@@ -296,6 +321,26 @@ def spoiled(folders, folder):
     done = folders.run("verify", folder)
     folders.wants("a copy that is gone", done.returncode == 2 and b"copy 2 lacks copy 1\n" in done.stdout, done)
     (folder / "kept").rename(folder / "copy-1")
+
+
+def without_copies(folders):
+    """Where a folder has no copy its log is read."""
+    folder = folders.place / "nothing"
+    folder.mkdir()
+    none = f"imgcopy: {folder}: there is no manifest"
+    folders.says("an empty folder", folders.run("verify", folder), 2, "", none, "E33 ReadFault",
+                 f"imgcopy: {folder}/log: {NOT_THERE}")
+    (folder / "log").write_bytes(bytes(range(200)))
+    folders.says("a log that is none", folders.run("verify", folder), 2, "", none, "E30 BadHeader",
+                 f"imgcopy: {folder}/log: begins like no file of imgcopy")
+    day = folders.made("no copies", FIRST)
+    done = folders.run("verify", day)
+    folders.wants("a database without copies", done.returncode == 0 and not done.stderr, done)
+    log = bytearray((day / "log").read_bytes())
+    log[64] = 99
+    (day / "log").write_bytes(log)
+    done = folders.run("verify", "--no-manifest", day)
+    folders.wants("a record that is none", done.returncode == 2 and b"E31 BadRecord 64\n" in done.stderr, done)
 
 
 def bare(folders, day):
@@ -476,6 +521,7 @@ def main(arguments):
             second_manifests(folders, folder, away)
             many_copies(folders)
             spoiled(folders, folder)
+            without_copies(folders)
             renewals(folders)
             a_log_that_is_nearly_full(folders)
     except (Failure, OSError, subprocess.SubprocessError) as failure:

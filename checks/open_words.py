@@ -3,7 +3,7 @@
 usage: python3 -m checks.open_words PROGRAM
 
 A flush answers how many writes have ended. A checkpoint writes the dirty pages first, so that its redo point is its own
-begin, and its master record is there once it is answered; where one is open, the refusal is that of the call. A copy is
+begin, and its master record is there once it is answered; where one is open, it goes on with that one. A copy is
 made by one word, of which the files alone restore the volume; it makes a checkpoint unless the last one is new, it is
 refused as the call that was refused, and a page that cannot be read is repaired from the newest copy. A line with more
 behind a word is a bad line, `quit` ends the input as its end does, `status` tells what there is, and `help` has a line
@@ -69,7 +69,11 @@ def checkpoints(words):
     _, done, answers = words.open(["checkpoint"], folder=folder)
     words.wants("a checkpoint of a later life", answers[-1] == "point 448 512 448", done)
     _, done, answers = words.open([*MADE, "ckpt", "checkpoint", "gather"])
-    words.wants("a checkpoint while one is open", answers[-2:] == ["E13 CkptOpen", "more"], done)
+    words.wants("a checkpoint while one is open", answers[-2:] == ["point 320 384 320", "E14 NoCkpt"], done)
+    folder, _, _ = words.open([*MADE, "ckpt", "force"])
+    _, done, answers = words.open(["checkpoint", "copy"], folder=folder)
+    is_ended = answers[-2:] == ["point 320 384 320", "copy 1 pages 2 taken 2"]
+    words.wants("a checkpoint of a life that ended within one", is_ended and done.returncode == 0, done)
     _, done, answers = words.open(["begin", "checkpoint"])
     words.wants("a checkpoint beside a transaction", answers[-1] == "point 128 256 128", done)
     _, done, answers = words.open([*["begin"] * 64, "checkpoint"])
@@ -117,7 +121,7 @@ def copies_refused(words):
     is_alone = [path.name for path in folder.glob("copy-*")] == ["copy-1"]
     words.wants("a copy that is refused leaves nothing", is_alone, done)
     _, done, answers = words.open([*MADE, "ckpt", "copy", "full"])
-    words.wants("a copy while a checkpoint is open", answers[-2:] == ["E13 CkptOpen", "E16 NoMaster"], done)
+    words.wants("a copy while a checkpoint is open", answers[-2:] == ["copy 1 pages 2 taken 2", "copy 2"], done)
     lines = ["copy now", "copy on", "copy on x", "copy 3", "copy on -1", "copy  on 1", "copy on 4294967296", "copy on 1 ",
              f"copy on {9:021}", f"copy on {9:020}", " copy on 001 ", "copy on 4294967295"]
     _, done, answers = words.open(lines)
@@ -163,7 +167,7 @@ def lines_that_are_no_words(words):
     wanted = [BEGUN, f"bad line 1: {alone}", f"bad line 2: {alone}", "flushed 0", "bad line 4: unknown call `Flush`",
               f"bad line 5: {alone}", f"bad line 6: {alone}"]
     words.wants("lines that are no words", answers == wanted and done.returncode == 0, done)
-    _, done, answers = words.open(["ckpt", "checkpoint", "flush"], "--strict")
+    _, done, answers = words.open(["force", "copy on 9", "flush"], "--strict")
     told = b"imgcopy: 1 of 3 calls was refused, the first at line 2\n"
     words.wants("a word that is refused", done.returncode == 1 and done.stderr == told, done)
 

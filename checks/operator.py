@@ -187,6 +187,9 @@ def check_reasons(program):
              "pages": spoiled("pages", 8, b"\0\0"), "prev": spoiled("prev", 128 + 8, bytes(8)),
              "first": spoiled("first", 7, b"1"), "later": spoiled("later", 7, b"3")}
     (program.folder / "short").write_bytes(b"AIMGLOG2")
+    (program.folder / "long").write_bytes((program.folder / "master").read_bytes() + b"\0")
+    (program.folder / "more-1").write_bytes((program.folder / "copy-1").read_bytes() + b"\0\0")
+    taken = int.from_bytes((program.folder / "copy-1").read_bytes()[40:44], "little")
     for words, status, line, why in (
             ([files["kind"], "master"], 2, "E31 BadRecord 64", "kind (log): kind 17 is that of no record"),
             ([files["lsn"], "master"], 2, "E31 BadRecord 128", "lsn (log): the record there has LSN 64 in itself"),
@@ -194,6 +197,9 @@ def check_reasons(program):
             (["short", "master"], 2, "E30 BadHeader", "short (log): has 8 bytes, and a header has 64"),
             (["master", "log"], 2, "E30 BadHeader", "master (log): is a master record"),
             (["log", "copy-1"], 2, "E30 BadHeader", "copy-1 (master record): is an image copy"),
+            (["log", "long"], 2, "E30 BadHeader", "long (master record): has 65 bytes, and a master record has 64"),
+            (["log", "master", "more-1"], 2, "E38 CountDiffers",
+             f"more-1 (image copy): bytes follow the last of its {taken} pages: 2"),
             (["log", "master", "log"], 2, "E36 BadArchive 0", "log (image copy): is a log"),
             (["log", "master", files["first"]], 2, "E36 BadArchive 0", "first (image copy): is a log"),
             ([files["later"], "master"], 2, "E30 BadHeader", "later (log): begins like no file of imgcopy"),

@@ -107,6 +107,10 @@ def standing(writer):
                 ("v", archive, "this is an image copy"), ("log", archive[:100], "this is an image copy"),
                 ("v", (writer.day / "manifest").read_bytes(), "this is a manifest"),
                 ("manifest", b"# imgcopy manifest 9", "this is a manifest"))
+    for data in (b"", b"old", b"AIMGLO", bytes(8192)):
+        yield from (("closed", data, "this may be the note of a closing, by its name"),
+                    ("log.left-out-1", data, "this may have been put aside by an opening, by its name"),
+                    ("copy-1.refused-2", data, "this may have been put aside by an opening, by its name"))
     for data in (b"", b"AIMGLO", bytes(8192)):
         yield from (("log", data, "this may be a log, by its name"),
                     ("master", data, "this may be a master record, by its name"),

@@ -8,7 +8,8 @@ usage: plants.py [--sample N] [--left-out] [CRATE..]
 The first tries the wrong bodies of these crates, or of all, as the gate does, by `rt ci`: so it proves no crate again
 that the gate has proved on this machine, but for one proof of each crate with wrong bodies, with which their tries
 begin. `--left-out` takes only those that the gate leaves out. `--sample N` takes N of them, of as few crates as it can:
-the sum of the commit's hash and a wrong body's path says which crate comes first, and which of its wrong bodies. The
+the sum of the commit's hash and a wrong body's path says which crate comes first, and which of its wrong bodies. It
+takes none of a crate whose proof alone would take longer than all else of a sample (DEAR). The
 second tries those of one crate over what `rt check` kept in this checkout, by `rt must-fail`. The third tries none, and
 looks whether each can be applied: whether what it changes stands in its file once. Its last line begins with 'ok
 wrong_bodies' then.
@@ -32,6 +33,8 @@ from pathlib import Path
 from repository import ROOT, lines_of_crates
 
 LOG = ROOT / "build" / "plants.log"
+# Three quarters of an hour of a processor each, where a sample of other crates takes a quarter of one.
+DEAR = ("open_database",)
 RESULT = re.compile(r"must-fail (\w+/[\w.-]+\.edit): (refused|NOT REFUSED|NOT TRIED|BAD EDIT)")
 SHOWN = re.compile(r"trying its must-fail edits|tried by an earlier run|: waiting for "
                    r"|NOT PROVED|NOT REFUSED|NOT TRIED|BAD EDIT")
@@ -63,13 +66,13 @@ def commit():
 
 
 def sample(edits, count):
-    """So many of them, crate by crate."""
+    """So many of them, crate by crate, and none of a crate that is dear to prove."""
     of_commit = commit()
 
     def place(it):
         return hashlib.sha256(f"{of_commit} {it[1].relative_to(ROOT)}".encode()).hexdigest()
 
-    ordered = sorted(edits, key=place)
+    ordered = sorted((it for it in edits if it[0] not in DEAR), key=place)
     crates = list(dict.fromkeys(crate for crate, _ in ordered))
     return [it for crate in crates for it in ordered if it[0] == crate][:count]
 

@@ -68,11 +68,17 @@ skip() {
     skipped=$((skipped + 1))
 }
 
-# preload NAME COMMAND..: runs a script whose last argument is this library for LD_PRELOAD.
-preload() {
+# Makes this library for LD_PRELOAD, if it is not there.
+preload_library() {
     local library=build/$1.so source=checks/$1.rs
+    [ "$library" -nt "$source" ] || rustc --edition 2024 --crate-type cdylib -O -o "$library" "$source"
+}
+
+# preload NAME COMMAND..: runs a script whose last argument is this library.
+preload() {
+    local library=build/$1.so
+    preload_library "$1" || return
     shift
-    [ "$library" -nt "$source" ] || rustc --edition 2024 --crate-type cdylib -O -o "$library" "$source" || return
     python3 -m "$@" "$library"
 }
 
@@ -178,7 +184,8 @@ run_sample() {
     fi
 }
 
-run_checks() {
+# The checks that need no program but the one that is tried.
+run_own_checks() {
     check contracts python3 -- python3 tools/contracts.py --check
     check documents python3 -- python3 tools/check_docs.py
     check laws python3 -- python3 tools/check_laws.py
@@ -211,6 +218,10 @@ run_checks() {
     check sizes "$program" python3 rustc -- preload most_memory checks.sizes "$program"
     check faults "$program" python3 -- python3 -m checks.faults "$program"
     check model "$program" python3 -- python3 -m checks.answers "$program"
+}
+
+# Those of the programs that rt proves for them.
+run_other_checks() {
     if "$uses_rt"; then
         check library_memory "$program" rt python3 rustc -- library_memory
         check few_threads "$program" rt python3 rustc -- few_threads
@@ -239,6 +250,32 @@ run_checks() {
             bank_threads bank_rot kv bank_disks; do
             skip "$name" "it has rt prove another program"
         done
+    fi
+}
+
+# The libraries for LD_PRELOAD are there before both kinds run side by side: what the second kind says comes behind the
+# first, and its counts are added.
+run_checks() {
+    local side=build/other_checks.log library other
+    if command -v rustc > /dev/null; then
+        for library in refuse_memory few_threads file_calls most_memory; do
+            preload_library "$library"
+        done
+    fi
+    (
+        passed=0 failed=0 skipped=0
+        run_other_checks
+        echo "$passed $failed $skipped"
+    ) > "$side" 2>&1 &
+    other=$!
+    run_own_checks
+    wait "$other"
+    sed '$d' "$side"
+    if [[ $(tail -n 1 "$side") =~ ^([0-9]+)\ ([0-9]+)\ ([0-9]+)$ ]]; then
+        passed=$((passed + BASH_REMATCH[1])) failed=$((failed + BASH_REMATCH[2])) skipped=$((skipped + BASH_REMATCH[3]))
+    else
+        echo "FAILED other_checks: they ended without their counts"
+        failed=$((failed + 1))
     fi
 }
 

@@ -41,8 +41,9 @@ impl<S: PageStore, D: LogDevice> Engine<S, D> {
     /// Ends a write of a page: stores the image, and answers its LSN. It takes no memory. A page
     /// that was changed since the image stays dirty, from the first such change on.
     ///
-    /// Refusals in order: `PageOut`, `NoWrite`, `StoreFault`. At `StoreFault` the write stays in
-    /// progress with its image, and may be ended again; the old page is stored, or the image.
+    /// Refusals in order: `PageOut`, `NoWrite`, `StoreFault`. At `StoreFault` the write has not
+    /// ended: it still has its image, and the call may be made again. What is stored is either
+    /// page, the older one or the image.
     pub fn write_end(&mut self, page: PageNo) -> Result<Lsn, Refusal>
         ensures step { Step self.old.state (event.WriteEnd page) (reply_of answer.Written result)
             self.new.state }

@@ -6,6 +6,7 @@ use std::sync::Wait;
 use std::sync::atomic::{AtomicU64, Ordering};
 use std::sync::ledger::Ledger;
 
+/// An engine behind a lock, with pages in memory and a log on any device.
 pub type Volume<D, G> = Shared<MemStore, D, G>;
 
 /// A session, the page that it changes, what its transactions do, and how many calls it has made.

@@ -354,9 +354,9 @@ impl<S: PageStore> Pool<S> {
     /// Ends a write of a page: stores the image, and answers its LSN. The page stays dirty where it
     /// was changed since the image, and its RecLSN is the first such change. It takes no memory.
     ///
-    /// An `Err` comes where the store fails, and of nothing else. The write is still in progress
-    /// then, and may be ended again; the stored page is the old one or the image, and the page is
-    /// as dirty as before.
+    /// An `Err` comes where the store fails, and of nothing else. The write has not ended then, and
+    /// the call may be made again; what is stored is either page, the older one or the image, and
+    /// the page is as dirty as before.
     pub fn write_end(&mut self, number: PageNo) -> Result<Lsn, StoreFault>
         requires within { number < length self.old.states }
         requires begun { IsSome (state_at self.old number).writing }

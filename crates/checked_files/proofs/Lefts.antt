@@ -16,7 +16,7 @@ use Rattle.copy_coverage.specs.Retired.{IsRetired, RetiredView}
 use Rattle.saved_files.specs.declared.saved_name.SavedName.{SavedName}
 use Rattle.saved_files.specs.declared.saved_name.SavedName.TheVariants.{Log, Master, Copy}
 use Rattle.saved_files.specs.Saved.{Parts, name_of, parts_of, place_of}
-use Rattle.checked_files.specs.Left.{AreNoted, AreNotedBefore, Notes}
+use Rattle.checked_files.specs.Left.{AreNoted, AreNotedBefore, Notes, NotesNoOther, NotesNoOtherBefore, extent_of}
 
 -- ---- the names
 
@@ -66,7 +66,7 @@ none_noted parts entries name bytes asked lt = absurd (omega (arith, lt))
 -- a file is noted behind those before it
 pub noted_more : (parts : Parts) (at : SavedName) (all : List ℕ) (old new : List Noted) (end : ℕ)
     → place_of at < 2 ^ 64 → end ≡ place_of at + 1 → parts at ≡ Some all
-    → AreNotedBefore parts (place_of at) old → Notes (name_of at) (Whole all) old new
+    → AreNotedBefore parts (place_of at) old → Notes at (Whole all) old new
     → AreNotedBefore parts end new
 noted_more parts at all old new end few is asked before put name bytes here lt =
     elim (cases_lt (place_of name) (place_of at)) [
@@ -77,6 +77,7 @@ noted_more parts at all old new end few is asked before put name bytes here lt =
           record {
             file = it.file;
             there = ap (file_of (name_of name)) put.added ∙ kept ∙ it.there;
+            extent = it.extent;
             sum = it.sum;
           }
       | inr le ↦
@@ -86,6 +87,7 @@ noted_more parts at all old new end few is asked before put name bytes here lt =
             file = put.file;
             there = ap (λ (a : SavedName). file_of (name_of a) new) same ∙ ap (file_of (name_of at)) put.added
                 ∙ noted_known (record { name = name_of at; file = put.file }) old;
+            extent = put.extent ∙ ap extent_of (sym same);
             sum = subst (IsSumOf put.file.sum put.file.bytes) (put.right ∙ equal) put.sum;
           }
     ]
@@ -101,6 +103,28 @@ none_more parts at entries end is none before name bytes here lt =
           let gone : None ≡ Some bytes = sym none ∙ ap parts (sym same) ∙ here in
           absurd (cc)
     ]
+
+-- ---- no other name
+
+pub none_other : (parts : Parts) (entries : List Noted) → entries ≡ [] → NotesNoOtherBefore parts 0 entries
+none_other parts entries none n free = ap (file_of n) none
+
+pub no_other_more : (parts : Parts) (at : SavedName) (all : List ℕ) (fits : List ℕ → Type 0) (old new : List Noted)
+    (end : ℕ) → end ≡ place_of at + 1 → parts at ≡ Some all
+    → NotesNoOtherBefore parts (place_of at) old → Notes at fits old new → NotesNoOtherBefore parts end new
+no_other_more parts at all fits old new end is asked before put n free =
+    ap (file_of n) put.added
+    ∙ others_kept (record { name = name_of at; file = put.file }) n old (free at all asked (omega (arith, is)))
+    ∙ before n (λ name bytes here lt. free name bytes here (omega (arith, lt, is)))
+
+pub no_other_past : (parts : Parts) (at : SavedName) (entries : List Noted) (end : ℕ) → end ≡ place_of at + 1
+    → NotesNoOtherBefore parts (place_of at) entries → NotesNoOtherBefore parts end entries
+no_other_past parts at entries end is before n free =
+    before n (λ name bytes here lt. free name bytes here (omega (arith, lt, is)))
+
+pub no_other : (parts : Parts) (end : ℕ) (entries : List Noted) → NotesNoOtherBefore parts end entries
+    → NotesNoOther parts entries
+no_other parts end entries before n free = before n (λ name bytes here lt. free name bytes here)
 
 -- ---- the copies
 

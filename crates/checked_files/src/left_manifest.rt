@@ -3,8 +3,8 @@
 ghost use Rattle.std.specs.Prelude.{◌≡◌, ℕ, List, IfOk, OnOk};
 ghost use Rattle.manifest.specs.Sums.{IsSumOf};
 ghost use Rattle.saved_files.specs.PutFault.{bytes_by};
-ghost use Rattle.saved_files.specs.Saved.{name_of, parts_of};
-ghost use Rattle.checked_files.specs.Left.{AreNoted, Notes};
+ghost use Rattle.saved_files.specs.Saved.{parts_of};
+ghost use Rattle.checked_files.specs.Left.{AreNoted, Notes, NotesNoOther, extent_of};
 
 use copy_coverage::Retired;
 use copy_vault::{CopyId, MAX_COPIES};
@@ -22,6 +22,7 @@ pub fn manifest_of(
 ) -> Result<Manifest, AllocError>
     ensures database { IfOk result (λ it. it.database ≡ database.0) }
     ensures noted { IfOk result (λ it. AreNoted (parts_of retired.now) it.entries) }
+    ensures only { IfOk result (λ it. NotesNoOther (parts_of retired.now) it.entries) }
 {
     let mut manifest = Manifest::new(alloc, database);
     note_file(&mut manifest, alloc, SavedName::Log, retired.log())?;
@@ -44,20 +45,30 @@ fn note_file<S: Source<Fault = FileFault> + Drop>(
     file: SavedName,
     source: S,
 ) -> Result<(), AllocError>
-    ensures noted { OnOk result (Notes (name_of file) (bytes_by (S.gives source))
+    ensures noted { OnOk result (Notes file (bytes_by (S.gives source))
         manifest.old.entries manifest.new.entries) }
     ensures database { manifest.new.database ≡ manifest.old.database }
 {
     let name = format!(in alloc; "{file}")?;
     let (sum, bytes) = sum_of_source(alloc, source)?;
-    let extent = match file {
-        SavedName::Log => Extent::First,
-        _ => Extent::Whole,
+    let known = FileSum {
+        extent: extent_of(file),
+        bytes,
+        sum,
     };
-    let known = FileSum { extent, bytes, sum };
     match manifest.note(name.as_str(), known) {
         Ok(()) => Ok(()),
         Err(_) => Err(AllocError),
+    }
+}
+
+/// How much of a file is summed: a log may grow.
+fn extent_of(file: SavedName) -> Extent
+    ensures { result ≡ extent_of file }
+{
+    match file {
+        SavedName::Log => Extent::First,
+        SavedName::Master | SavedName::Copy(_) => Extent::Whole,
     }
 }
 

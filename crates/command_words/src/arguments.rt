@@ -121,6 +121,7 @@ pub(crate) const RESTORE_ABOUT: &str = "Write the volume that a log and image co
     A FOLDER stands for the files in it: the newest copy that is whole is taken, with those that it\n\
     stands on, or copy N is, by --copy <N>";
 
+/// The usage of `restore`, a line for each of its forms.
 pub const RESTORE_USAGE: &str =
     "imgcopy restore [--log-out <FILE> [--force]] [OPTIONS] <LOG> <MASTER> <ARCHIVE>... > VOLUME\n       \
     imgcopy restore -o <FILE> [--log-out <FILE>] [--force] [OPTIONS] <LOG> <MASTER> <ARCHIVE>...\n       \

@@ -157,10 +157,10 @@ impl ChainReader {
         Ok(Some(page))
     }
 
-    /// Gives, at the next number, the page of each archive that took it: a place in `row` is that
-    /// of an archive, in their order, and has nothing where its archive does not have the page. It
-    /// answers `false` once all numbers were given, from then on. The archives are read as `next`
-    /// reads them, each one on as soon as its page was given.
+    /// Goes on by one page number, and puts into `row` what the archives have of it: place by
+    /// place, in their order, the page that an archive took, or nothing. It answers `false` once
+    /// all numbers were given, from then on. The archives are read as `next` reads them, each one
+    /// on as soon as its page was given.
     ///
     /// The refusals are those of `next`, in the same order, and the refusal is answered from then
     /// on. After a refusal or `false` the row says nothing. This takes no memory.

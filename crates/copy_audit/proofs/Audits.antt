@@ -25,7 +25,7 @@ use Rattle.copy_archives.proofs.Public.{not_stopped, not_unmade}
 use Rattle.image_copies.proofs.Public.{some_members}
 use Rattle.copy_audit.specs.declared.unsound.Unsound as fault
 use Rattle.copy_audit.specs.Audit.{AreCovering, IsAudited, IsFirstUnsound, chain_to, end_of}
-use Rattle.copy_audit.specs.AuditFault.{IsOutside, of_chain, of_log}
+use Rattle.copy_audit.specs.AuditFault.{IsOutside, NamesNoPage, of_chain, of_log}
 use Rattle.copy_audit.specs.Audited.{AreRefused, of_a_page, of_memory, of_the_archives, of_the_log}
 
 pub covering_of_audited : (log : Log) (copies : List CopyView) → IsChain copies → IsAudited log copies
@@ -133,3 +133,23 @@ refused_outside whole copies why valid linked right audited (of_a_page other mem
     (subst (λ (cs : List CopyView). IsFirstUnsound other cs found.id found.page) all found.first) in
     absurd (unsound_apart whole copies found.id found.page first audited)
 refused_outside whole copies why valid linked right audited (of_memory is) = subst IsOutside (sym is) tt
+
+-- ---- faults that name no page
+
+pub no_page_of_log : (why : LogReadFault) → NamesNoPage (of_log why)
+no_page_of_log log.OutOfMemory = tt
+no_page_of_log log.BadHeader = tt
+no_page_of_log (log.BadRecord at) = tt
+no_page_of_log (log.BadChain at) = tt
+no_page_of_log (log.Torn at) = tt
+no_page_of_log log.ReadFault = tt
+no_page_of_log log.TooLong = tt
+
+pub no_page_of_chain : (why : ChainReadFault) → NamesNoPage (of_chain why)
+no_page_of_chain chain.OutOfMemory = tt
+no_page_of_chain (chain.BadArchive at) = tt
+no_page_of_chain (chain.ChainBroken copy) = tt
+no_page_of_chain chain.CountDiffers = tt
+no_page_of_chain chain.ReadFault = tt
+no_page_of_chain chain.RedoBeyondLog = tt
+no_page_of_chain (chain.PageBeyondLog page) = tt

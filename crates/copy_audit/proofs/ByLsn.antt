@@ -15,8 +15,8 @@ use Rattle.copy_audit.specs.Trace.{IsReach}
 
 -- ---- which places of a row have a page
 
-pub no_pages : (row : List (Option Page)) → HavePages row 0 []
-no_pages row = record {
+pub no_pages : (places : List (Option Page)) → HavePages places 0 []
+no_pages places = record {
   within = λ k d lt. absurd (omega arith);
   all = λ k page lt is. absurd (omega arith);
 }

@@ -41,6 +41,11 @@ IsOutside OutOfMemory = Unit {0}
 IsOutside ReadFault = Unit {0}
 IsOutside of_the_bytes = ⊥
 
+-- the fault is that of another thing than a page
+abbrev pub NamesNoPage : fault.Unsound → Type 0
+NamesNoPage (Unsound copy page) = ⊥
+NamesNoPage other = Unit {0}
+
 -- what is printed of a fault
 abbrev pub line_of : fault.Unsound → List ℕ
 line_of OutOfMemory = fault_line name.OutOfMemory

@@ -9,6 +9,7 @@ ghost use Rattle.copy_archives.specs.ChainEach.{ids_of, place_list, points_of};
 ghost use Rattle.copy_archives.specs.ChainReading.{AreNoChain};
 ghost use Rattle.copy_audit.specs.declared.all_pages.UnsoundPage.{UnsoundPage};
 ghost use Rattle.copy_audit.specs.Audit.{end_of};
+ghost use Rattle.copy_audit.specs.AuditFault.{NamesNoPage};
 ghost use Rattle.copy_audit.specs.Audited.{AreRefused};
 ghost use Rattle.copy_audit.specs.Changes.{AreChangesOf, IsKeptOf};
 ghost use Rattle.copy_audit.specs.Told.{AreFirstOf, AreToldOf, HasTold, IsTold};
@@ -68,6 +69,7 @@ pub fn unsound_pages<L: Read, A: Read>(
         (AreToldOf (L.remaining log.old) (map (λ a. A.remaining a) archives.old)) }
     ensures err { IfErr result
         (AreRefused (L.remaining log.old) (map (λ a. A.remaining a) archives.old)) }
+    ensures no_page { IfErr result NamesNoPage }
 {
     let kept = read_changes(alloc, log)?.0;
     let told = pages_in(alloc, &kept, archives)?;

@@ -1,6 +1,6 @@
 //! Laws of audited chains.
 
-ghost use Rattle.std.specs.Prelude.{ℕ, ◌<◌, List, Some, length};
+ghost use Rattle.std.specs.Prelude.{ℕ, ◌≡◌, ◌<◌, List, Some, length};
 ghost use Rattle.log_records.specs.Log.{IsLog, Log, counts_of, log_bytes};
 ghost use Rattle.log_rules.specs.Linked.{IsLinked};
 ghost use Rattle.copy_archives.specs.ChainReading.{IsRightChain, archives_of};
@@ -9,6 +9,13 @@ ghost use Rattle.copy_audit.specs.declared.unsound.Unsound as fault;
 ghost use Rattle.copy_audit.specs.Audit.{IsAudited, IsFirstUnsound, chain_to, end_of};
 ghost use Rattle.copy_audit.specs.AuditFault.{IsOutside};
 ghost use Rattle.copy_audit.specs.Audited.{AreRefused};
+
+use crate::all_pages::MOST_PAGES;
+
+/// How many unsound pages of a chain are told at most.
+pub fn so_many_unsound_pages_are_told()
+    ensures { MOST_PAGES ≡ 1000 }
+{}
 
 /// A log and a chain of copies for it that is audited are refused only for lack of memory or a
 /// failing reader, and never for what is in them.

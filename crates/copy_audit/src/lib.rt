@@ -18,7 +18,7 @@ pub use all_pages::{UnsoundPage, UnsoundPages, unsound_pages};
 pub use chain_audit::{Sound, audit};
 pub use laws::{
     a_part_of_an_audited_chain_is_audited, an_audited_chain_is_called_sound,
-    an_unsound_chain_is_not_audited,
+    an_unsound_chain_is_not_audited, so_many_unsound_pages_are_told,
 };
 pub use page_audit::is_sound;
 pub use unsound::Unsound;

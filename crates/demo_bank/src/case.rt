@@ -16,6 +16,7 @@ pub enum Command<'a> {
 }
 
 impl<'a> Command<'a> {
+    /// What these words order, or nothing where they are none of its forms.
     pub fn of(words: &'a [String]) -> Option<Command<'a>> {
         match words {
             [option, folder, rest @ .., transfers] if option.as_str() == "--files" => {
@@ -93,6 +94,7 @@ impl Workers {
         Some(Workers { count })
     }
 
+    /// How many they are.
     pub fn count(self) -> u32
         ensures some { 1 ≤ result }
         ensures few { result ≤ 64 }

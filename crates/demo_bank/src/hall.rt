@@ -37,6 +37,7 @@ pub struct Hall<'a> {
 }
 
 impl<'a> Hall<'a> {
+    /// A hall with so many tellers, none of whom has begun, and no copy.
     pub fn new(files: &'a HostRuntime, folder: &'a str, tellers: u32, transfers: u32) -> Hall<'a> {
         Hall {
             files,

@@ -28,6 +28,7 @@ pub const TRANSFERS: u32 = 200;
 /// How many of them are made before a teller waits for the copies to begin.
 const BEFORE_FULL: u32 = 100;
 
+/// How many of them are made before a teller waits for the incremental copy to begin.
 pub const BEFORE_INCREMENTAL: u32 = 150;
 
 const PASSES: u32 = 20;

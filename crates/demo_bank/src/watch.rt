@@ -134,6 +134,8 @@ pub struct Watch {
 }
 
 impl Watch {
+    /// A watch over so many tellers, who have made no transfer. An `Err` comes where
+    /// memory is refused.
     pub fn new(alloc: Global, tellers: u32) -> Result<Watch, AllocError> {
         Ok(Watch {
             made: AtomicU64::new(0),

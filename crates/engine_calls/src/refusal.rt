@@ -52,11 +52,11 @@ pub enum Refusal {
     PageDecided,
     /// Nothing is decided yet of this page, the least such one.
     PagesLeft(PageNo),
-    /// The page store failed. At the end of a write, the write stays in progress with its image,
-    /// and may be ended again; the old page is stored, or the image. At a repair the log is forced
-    /// through the page's LSN, the old page is stored, or the rebuilt one, and the page is as dirty
-    /// as before. At a call that reads a page, nothing changed. At a growth the store may have more
-    /// pages than the volume, and nothing else changed.
+    /// The page store failed. Where a write was to end, it has not: it still has its image, and the
+    /// call may be made again; what is stored is either page, the older one or the image. At a
+    /// repair the log is forced through the page's LSN, the old page is stored, or the rebuilt one,
+    /// and the page is as dirty as before. At a call that reads a page, nothing changed. At a
+    /// growth the store may have more pages than the volume, and nothing else changed.
     StoreFault,
     /// The page has to come in, each frame is taken, and none has a clean page.
     PoolFull,

@@ -1,6 +1,9 @@
 -- Copies of an older life, audited against the log before they are taken up.
 use Rattle.std.specs.Prelude.{ℕ, ◌≡◌, ◌<◌, ◌++◌, ◌⊎◌, List, [], ◌∷◌, length}
-use Rattle.std.specs.Prelude.{Some}
+use Rattle.std.specs.Prelude.{Option, None, Some, codes}
+use Rattle.std.specs.Fmt.{decimal}
+use Rattle.page_core.specs.FaultName.{fault_line}
+use Rattle.page_core.specs.declared.fault_name.FaultName.TheVariants as name
 use Rattle.log_records.specs.Coverage.{Covers}
 use Rattle.log_records.specs.Log.{Log, lsn_of, page_count, page_count_below}
 use Rattle.log_rules.specs.Checkpoint.{IsCompleteCheckpoint}
@@ -85,3 +88,10 @@ abbrev pub IsNotAdded : Log → List CopyState → CopyView → AddCopyFault →
 IsNotAdded log copies copy fault = IsNotOf log copies copy fault
     ⊎ (MayAdd log copies copy
     × ((why : AddFault) × (fault ≡ Refused why) × (add_refusal copies copy ≡ Some why)))
+
+-- what is printed of it. What is said of a vault's refusal is told by no clause
+abbrev pub text_of : AddCopyFault → Option (List ℕ)
+text_of OutOfMemory = Some (fault_line name.OutOfMemory)
+text_of OfOtherLog = Some (codes "the copy is none of this log")
+text_of (Unsound page) = Some (codes "page " ++ decimal page ++ codes " is not what the log says")
+text_of (Refused fault) = None

@@ -1,5 +1,7 @@
 -- The file of a log, as it was read.
-use Rattle.std.specs.Prelude.{ℕ, ◌≡◌, ◌<◌, List, [], ◌∷◌, ◌++◌, length, Option}
+use Rattle.std.specs.Prelude.{ℕ, ◌≡◌, ◌<◌, List, [], ◌∷◌, ◌++◌, length, Option, None, Some}
+use Rattle.page_core.specs.FaultName.{fault_line}
+use Rattle.page_core.specs.declared.fault_name.FaultName.TheVariants as name
 use Rattle.engine_rules.specs.EngineState.{EngineState}
 use Rattle.file_devices.specs.Calls.{done}
 use Rattle.file_devices.specs.FileLog.{LogOnDisk, ResumeFails, bytes_of}
@@ -7,8 +9,8 @@ use Rattle.file_devices.specs.declared.calls.FileCall.{FileCall}
 use Rattle.file_devices.specs.declared.calls.Request.TheVariants.{Read, SetLen, Sync, Write}
 use Rattle.log_front.specs.declared.cut.Cut.{Cut}
 use Rattle.log_front.specs.Front.{IsFrontOf}
-use Rattle.log_records.specs.Log.{Log}
-use Rattle.engine_restart.specs.Found.{FindsNone}
+use Rattle.log_records.specs.Log.{Log, log_bytes}
+use Rattle.engine_restart.specs.Found.{FindsNone, line_of}
 use Rattle.engine_restart.specs.Lives.{GoesOnFrom}
 use Rattle.engine_restart.specs.Restart.{HasLasting, undone_log}
 use Rattle.engine_restart.specs.declared.log_file.TheConstants.{MAX_FILE_BYTES}
@@ -42,19 +44,28 @@ HasNoLog len (File why) = (bytes : List ℕ) × (length bytes ≡ len) × Resume
 HasNoLog len (Found fault file) =
     (bytes : List ℕ) × IsReadWhole len bytes file.calls × FindsNone bytes fault
 
--- so it was at first, whatever the file was asked for later
-pub record WasReadWhole (len : ℕ) (bytes : List ℕ) (file : List FileCall) : Type 0 where
-  pub first : List FileCall
+-- what is printed of it. What the system says of a file that failed is not known
+abbrev pub text_of : FoundLogFault → Option (List ℕ)
+text_of OutOfMemory = Some (fault_line name.OutOfMemory)
+text_of (TooLong count) = Some (fault_line name.TooLong)
+text_of (File why) = None
+text_of (Found fault file) = Some (line_of fault)
+
+-- so it was at first; then the file was asked to have this front of these bytes as its first ones,
+-- to be cut behind it, and to sync. It did all of this before it was asked for anything else
+pub record WasReadAndKept (len : ℕ) (bytes front : List ℕ) (file : List FileCall) : Type 0 where
+  pub all : length bytes ≡ len
   pub later : List FileCall
-  pub calls : file ≡ first ++ later
-  pub whole : IsReadWhole len bytes first
+  pub calls : file ≡ done (Read 0 bytes) ∷ done Sync ∷ done (Write 0 front)
+      ∷ done (SetLen (length front)) ∷ done Sync ∷ later
 
 -- an engine goes on from a file of so many bytes, all of which were read before all else: its log is
--- the longest front of these bytes, cut there, once what was open in it is taken back
+-- the longest front of these bytes, cut there, once what was open in it is taken back. That front was
+-- stored again, alone, before anything was stored behind it
 pub record GoesOnFromFile (len : ℕ) (cut : Option Cut) (file : List FileCall) (s : EngineState)
     : Type 0 where
   pub bytes : List ℕ
   pub log : Log
-  pub read : WasReadWhole len bytes file
+  pub read : WasReadAndKept len bytes (log_bytes log) file
   pub front : IsFrontOf bytes (record { log = log; cut = cut })
   pub goes_on : GoesOnFrom (undone_log log) s

@@ -25,11 +25,18 @@ pub enum AddCopyFault {
 }
 
 impl fmt::Display for AddCopyFault {
+    ghost use Rattle.engine_restart.specs.Added.{text_of};
+
+    ghost output = { λ fault. text_of fault };
+
     fn fmt<W: fmt::Write>(&self, f: &mut fmt::Formatter<W>) -> fmt::Result {
         match self {
             AddCopyFault::OutOfMemory => write!(f, "{}", FaultName::OutOfMemory),
             AddCopyFault::OfOtherLog => f.write_str("the copy is none of this log"),
-            AddCopyFault::Unsound(page) => write!(f, "page {} is not what the log says", page.0),
+            AddCopyFault::Unsound(page) => {
+                let page = page.0;
+                write!(f, "page {page} is not what the log says")
+            }
             AddCopyFault::Refused(fault) => write!(f, "{fault}"),
         }
     }

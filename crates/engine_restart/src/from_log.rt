@@ -1,11 +1,14 @@
 //! Restart from a log alone.
 
-ghost use Rattle.std.specs.Prelude.{◌≡◌, ◌<◌, [], length, IfErr, IfOk};
+ghost use Rattle.std.specs.Prelude.{◌≡◌, ◌+◌, ◌<◌, [], length, IfErr, IfOk};
+ghost use Rattle.log_records.specs.declared.limits.TheConstants.{MAX_RECORDS};
 ghost use Rattle.log_records.specs.Log.{log_bytes, lsn_of};
+ghost use Rattle.log_rules.specs.Transactions.{owed};
 ghost use Rattle.log_store.specs.Device.{KeepsFirst};
 ghost use Rattle.loser_undo.specs.Recovery.{HasCommitted};
 ghost use Rattle.engine_restart.specs.Restart.{ForcesMore, HasLasting, IsRestarted, IsStopped};
 ghost use Rattle.engine_restart.specs.Restart.{undone_log};
+ghost use Rattle.engine_restart.specs.declared.fault.RestartFault.TheVariants.{LogFull};
 
 use crate::fault::RestartFault;
 use crate::restarted::Restarted;
@@ -38,6 +41,8 @@ pub fn restart<D: LogDevice + Drop>(
         → D.bytes it.1 ≡ log_bytes it.0.log) }
     ensures called { IfOk result (λ it.
         ForcesMore D.called D.synced front.log it.0.log device it.1) }
+    ensures full { IfErr result (λ e. e.0 ≡ LogFull
+        → MAX_RECORDS < length front.log.records + owed front.log.records) }
     ensures fault { IfErr result (λ e. IsStopped D.failures device e.0 e.1) }
     ensures stands { IfErr result (λ e.
         KeepsFirst (lsn_of (length front.log.records)) (D.bytes device) (D.bytes e.1)) }

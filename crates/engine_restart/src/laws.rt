@@ -17,8 +17,14 @@ ghost use Rattle.engine_restart.specs.Interrupted.{IsFoundFrom};
 ghost use Rattle.engine_restart.specs.Lives.{AreLives, Life, commits_of, last_life};
 ghost use Rattle.engine_restart.specs.Restart.{undone_log};
 
+use crate::log_file::MAX_FILE_BYTES;
 use copy_coverage::{a_complete_copy_restores, copies_may_be_restored};
 use loser_undo::undo_takes_back_what_is_pending;
+
+/// How many bytes a log's file may have at most to be read: twice those of the longest log.
+pub fn files_of_so_many_bytes_are_read()
+    ensures { MAX_FILE_BYTES ≡ 134217856 }
+{}
 
 /// The analysis of a log (ARIES, section 6.1) goes record by record: each record may come next for
 /// the table of those before it, and leaves the table of those up to it. So the reader that told of

@@ -22,7 +22,10 @@ pub use fault::RestartFault;
 pub use found::log_in;
 pub use found_fault::FoundFault;
 pub use from_log::restart;
-pub use laws::{analysis_goes_record_by_record, lives_follow_one_another, undo_may_be_interrupted};
+pub use laws::{
+    analysis_goes_record_by_record, files_of_so_many_bytes_are_read, lives_follow_one_another,
+    undo_may_be_interrupted,
+};
 pub use log_file::{FoundLog, MAX_FILE_BYTES, found_log, log_on};
 pub use log_file_fault::FoundLogFault;
 pub use restarted::Restarted;

@@ -25,6 +25,10 @@ pub enum FoundLogFault {
 }
 
 impl fmt::Display for FoundLogFault {
+    ghost use Rattle.engine_restart.specs.LogFile.{text_of};
+
+    ghost output = { λ fault. text_of fault };
+
     fn fmt<W: fmt::Write>(&self, f: &mut fmt::Formatter<W>) -> fmt::Result {
         match self {
             FoundLogFault::OutOfMemory => write!(f, "{}", FaultName::OutOfMemory),

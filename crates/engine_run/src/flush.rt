@@ -14,11 +14,12 @@ use std::sync::Wait;
 use std::sync::ledger::Ledger;
 
 impl<S: PageStore, D: LogDevice, G: Ledger> Shared<S, D, G> {
-    /// Writes each page that is dirty when its turn comes, in page order, by two holds: one that
-    /// begins the write, and one that ends it. A page that is clean is passed over, and so is one
-    /// whose write another flusher ended; a write that another one has begun is ended. Pages that
-    /// the volume grows by meanwhile have their turn, too. Any other refusal ends the pass and is
-    /// answered.
+    /// Goes over the pages from the lowest number up, and writes those that it finds dirty. It
+    /// holds the lock twice for a page: to begin the write, and to end it. A page that is clean is
+    /// passed over, and so is one whose write another flusher ended; a write that another one has
+    /// begun is ended. Pages that the volume grows by meanwhile have their turn, too. How many
+    /// pages there are it looks up by a short hold before which no gate is passed. Any other
+    /// refusal ends the pass and is answered.
     pub fn flush_pass(&self, rt: &impl Wait, gate: &impl HoldGate) -> Result<(), Refusal> {
         let mut pages = 0;
         for number in 0..MAX_PAGES {

@@ -2,8 +2,9 @@
 
 use page_core::PageNo;
 
-/// Is called outside the lock before each take of a copy and before each hold of a flush pass or a
-/// checkpoint: tests wait in it, and a program may slow such work down.
+/// A place to wait, which is passed without the lock: before a worker of a copy takes its next
+/// page, and before a flush pass or a checkpoint locks the engine for a step. Tests wait in it, and
+/// a program may slow such work down.
 pub trait HoldGate {
     /// `worker` is the number of the copy worker, from 0 on, and 0 in a flush pass or checkpoint;
     /// `page` is the page of the hold, and 0 in a checkpoint.

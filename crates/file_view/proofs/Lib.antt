@@ -1,4 +1,5 @@
 mod CopyHeaders
+mod Inputs
 mod Slots
 mod Reading
 mod Apart

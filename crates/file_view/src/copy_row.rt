@@ -1,5 +1,8 @@
 //! The copies of a folder, and which of their chains are whole.
 
+ghost use Rattle.std.specs.Prelude.{◌≡◌, [], OnErr, OnOk};
+ghost use Rattle.file_view.specs.CopyRows.{AddsRow, IsFlawOf, lacking_at, lacking_from};
+
 use crate::copy_header::CopyHeader;
 use page_core::{FaultName, Lsn};
 use std::alloc::{AllocError, Global};
@@ -50,7 +53,10 @@ pub struct Rows {
 
 impl Rows {
     /// No copies yet, beside a log that ends here.
-    pub fn new(alloc: Global, end: Option<Lsn>) -> Rows {
+    pub fn new(alloc: Global, end: Option<Lsn>) -> Rows
+        ensures none { result.rows.items ≡ [] }
+        ensures end { result.end ≡ end }
+    {
         Rows {
             rows: Vec::new(alloc),
             end,
@@ -59,11 +65,16 @@ impl Rows {
 
     /// Notes the next copy, whose file has so many bytes. Its id has to be above those of the
     /// copies before it, as each parent is below its child.
-    pub fn push(&mut self, header: CopyHeader, bytes: u64) -> Result<(), AllocError> {
+    pub fn push(&mut self, header: CopyHeader, bytes: u64) -> Result<(), AllocError>
+        ensures ok { OnOk result (AddsRow header bytes self.old.end
+            self.old.rows.items self.new.rows.items) }
+        ensures err { OnErr result (self.new.rows.items ≡ self.old.rows.items) }
+        ensures end { self.new.end ≡ self.old.end }
+    {
         let missing = if header.parent == 0 {
             None
         } else {
-            self.missing_at(header.parent)
+            missing_at(&self.rows, header.parent)
         };
         let flaw = flaw_of(&header, bytes, self.end);
         self.rows.push(CopyRow {
@@ -76,27 +87,40 @@ impl Rows {
     }
 
     /// The copies, in order of their ids.
-    pub fn rows(&self) -> &[CopyRow] {
+    pub fn rows(&self) -> &[CopyRow]
+        ensures { result.now ≡ self.now.rows.items }
+    {
         &self.rows
     }
+}
 
-    /// The nearest copy from this one down of which there is no archive, or one with a flaw.
-    fn missing_at(&self, id: u32) -> Option<u32> {
-        for row in self.rows.as_slice() {
-            if row.header.id == id {
-                return if row.flaw.is_none() {
-                    row.missing
-                } else {
-                    Some(id)
-                };
-            }
+/// The nearest copy from that of an id down of which there is no archive, or one with a flaw.
+fn missing_at(rows: &[CopyRow], id: u32) -> Option<u32>
+    ensures { result ≡ lacking_at id rows.now }
+{
+    for row in rows {
+        if row.header.id == id {
+            return missing_from(row);
         }
-        Some(id)
+    }
+    Some(id)
+}
+
+/// The same from a copy of which there is an archive.
+fn missing_from(row: &CopyRow) -> Option<u32>
+    ensures { result ≡ lacking_from row.now }
+{
+    if row.flaw.is_some() {
+        Some(row.header.id)
+    } else {
+        row.missing
     }
 }
 
 /// What is wrong with a copy, whose file has so many bytes, beside a log that ends here.
-fn flaw_of(header: &CopyHeader, bytes: u64, end: Option<Lsn>) -> Option<CopyFlaw> {
+fn flaw_of(header: &CopyHeader, bytes: u64, end: Option<Lsn>) -> Option<CopyFlaw>
+    ensures { IsFlawOf header.now bytes end result }
+{
     if bytes != header.bytes() {
         return Some(CopyFlaw::Length);
     }

@@ -1,5 +1,8 @@
 //! The line that says what a file is.
 
+ghost use Rattle.std.specs.Prelude.{◌≡◌};
+ghost use Rattle.file_view.specs.HeadText.{number_of};
+
 use crate::copy_header::CopyHeader;
 use log_store::Master;
 use page_core::Format;
@@ -24,7 +27,9 @@ pub enum Head {
 }
 
 /// The number of a format, as its files name it.
-fn number_of(format: Format) -> u32 {
+fn number_of(format: Format) -> u32
+    ensures { result ≡ number_of format }
+{
     match format {
         Format::First => 1,
         Format::Second => 2,
@@ -36,6 +41,11 @@ fn number_of(format: Format) -> u32 {
 struct KindWords(u32);
 
 impl fmt::Display for KindWords {
+    ghost use Rattle.std.specs.Prelude.{Some};
+    ghost use Rattle.file_view.specs.HeadText.{kind_words};
+
+    ghost output = { λ parent. Some (kind_words parent.0) };
+
     fn fmt<W: fmt::Write>(&self, f: &mut fmt::Formatter<W>) -> fmt::Result {
         match self.0 {
             0 => f.write_str("full"),
@@ -49,6 +59,11 @@ impl fmt::Display for KindWords {
 struct KindJson(u32);
 
 impl fmt::Display for KindJson {
+    ghost use Rattle.std.specs.Prelude.{Some};
+    ghost use Rattle.file_view.specs.HeadText.{kind_json};
+
+    ghost output = { λ parent. Some (kind_json parent.0) };
+
     fn fmt<W: fmt::Write>(&self, f: &mut fmt::Formatter<W>) -> fmt::Result {
         match self.0 {
             0 => f.write_str("\"kind\":\"full\",\"parent\":null"),
@@ -57,14 +72,83 @@ impl fmt::Display for KindJson {
     }
 }
 
-impl fmt::Display for CopyHeader {
+/// Which copy an archive has.
+#[derive(Clone, Copy)]
+struct NameWords(CopyHeader);
+
+impl fmt::Display for NameWords {
+    ghost use Rattle.std.specs.Prelude.{Some};
+    ghost use Rattle.file_view.specs.HeadText.{name_words};
+
+    ghost output = { λ it. Some (name_words it.0) };
+
+    #[tactic(auto, unfolding(crate::specs::HeadText::name_words))]
     fn fmt<W: fmt::Write>(&self, f: &mut fmt::Formatter<W>) -> fmt::Result {
-        let (id, pages, taken) = (self.id, self.pages, self.taken);
-        let (begin, redo, kind) = (self.begin.0, self.redo.0, KindWords(self.parent));
-        write!(
-            f,
-            "copy {id} {kind} pages {pages} begin {begin} redo {redo} taken {taken}"
-        )
+        let (id, kind) = (self.0.id, KindWords(self.0.parent));
+        write!(f, "copy {id} {kind}")
+    }
+}
+
+/// The LSNs of its checkpoint, and how many pages follow.
+#[derive(Clone, Copy)]
+struct RestWords(CopyHeader);
+
+impl fmt::Display for RestWords {
+    ghost use Rattle.std.specs.Prelude.{Some};
+    ghost use Rattle.file_view.specs.HeadText.{rest_words};
+
+    ghost output = { λ it. Some (rest_words it.0) };
+
+    #[tactic(auto, unfolding(crate::specs::HeadText::rest_words))]
+    fn fmt<W: fmt::Write>(&self, f: &mut fmt::Formatter<W>) -> fmt::Result {
+        let (begin, redo, taken) = (self.0.begin.0, self.0.redo.0, self.0.taken);
+        write!(f, "begin {begin} redo {redo} taken {taken}")
+    }
+}
+
+impl fmt::Display for CopyHeader {
+    ghost use Rattle.std.specs.Prelude.{Some};
+    ghost use Rattle.file_view.specs.HeadText.{header_words};
+
+    ghost output = { λ it. Some (header_words it) };
+
+    fn fmt<W: fmt::Write>(&self, f: &mut fmt::Formatter<W>) -> fmt::Result {
+        let (name, pages, rest) = (NameWords(*self), self.pages, RestWords(*self));
+        write!(f, "{name} pages {pages} {rest}")
+    }
+}
+
+/// Which copy an archive has, in JSON.
+#[derive(Clone, Copy)]
+struct NameJson(CopyHeader);
+
+impl fmt::Display for NameJson {
+    ghost use Rattle.std.specs.Prelude.{Some};
+    ghost use Rattle.file_view.specs.HeadText.{name_json};
+
+    ghost output = { λ it. Some (name_json it.0) };
+
+    #[tactic(auto, unfolding(crate::specs::HeadText::name_json))]
+    fn fmt<W: fmt::Write>(&self, f: &mut fmt::Formatter<W>) -> fmt::Result {
+        let (id, kind) = (self.0.id, KindJson(self.0.parent));
+        write!(f, "\"id\":{id},{kind}")
+    }
+}
+
+/// The LSNs of its checkpoint, and how many pages follow, in JSON.
+#[derive(Clone, Copy)]
+struct RestJson(CopyHeader);
+
+impl fmt::Display for RestJson {
+    ghost use Rattle.std.specs.Prelude.{Some};
+    ghost use Rattle.file_view.specs.HeadText.{rest_json};
+
+    ghost output = { λ it. Some (rest_json it.0) };
+
+    #[tactic(auto, unfolding(crate::specs::HeadText::rest_json))]
+    fn fmt<W: fmt::Write>(&self, f: &mut fmt::Formatter<W>) -> fmt::Result {
+        let (begin, redo, taken) = (self.0.begin.0, self.0.redo.0, self.0.taken);
+        write!(f, "\"begin\":{begin},\"redo\":{redo},\"taken\":{taken}")
     }
 }
 
@@ -73,18 +157,23 @@ impl fmt::Display for CopyHeader {
 pub(crate) struct HeaderJson(pub CopyHeader);
 
 impl fmt::Display for HeaderJson {
+    ghost use Rattle.std.specs.Prelude.{Some};
+    ghost use Rattle.file_view.specs.HeadText.{header_json};
+
+    ghost output = { λ it. Some (header_json it.0) };
+
     fn fmt<W: fmt::Write>(&self, f: &mut fmt::Formatter<W>) -> fmt::Result {
-        let header = self.0;
-        let (id, pages, taken) = (header.id, header.pages, header.taken);
-        let (begin, redo, kind) = (header.begin.0, header.redo.0, KindJson(header.parent));
-        write!(
-            f,
-            "\"id\":{id},{kind},\"pages\":{pages},\"begin\":{begin},\"redo\":{redo},\"taken\":{taken}"
-        )
+        let (name, pages, rest) = (NameJson(self.0), self.0.pages, RestJson(self.0));
+        write!(f, "{name},\"pages\":{pages},{rest}")
     }
 }
 
 impl fmt::Display for Head {
+    ghost use Rattle.std.specs.Prelude.{Some};
+    ghost use Rattle.file_view.specs.HeadText.{head_words};
+
+    ghost output = { λ head. Some (head_words head) };
+
     fn fmt<W: fmt::Write>(&self, f: &mut fmt::Formatter<W>) -> fmt::Result {
         match self {
             Head::Log {
@@ -113,6 +202,11 @@ impl fmt::Display for Head {
 pub struct HeadJson(pub Head);
 
 impl fmt::Display for HeadJson {
+    ghost use Rattle.std.specs.Prelude.{Some};
+    ghost use Rattle.file_view.specs.HeadText.{head_json};
+
+    ghost output = { λ head. Some (head_json head.0) };
+
     fn fmt<W: fmt::Write>(&self, f: &mut fmt::Formatter<W>) -> fmt::Result {
         match self.0 {
             Head::Log {
@@ -123,8 +217,9 @@ impl fmt::Display for HeadJson {
                 let format = number_of(format);
                 write!(
                     f,
-                    "{{\"file\":\"log\",\"format\":{format},\"pages\":{pages},\"records\":{records}}}"
-                )
+                    "{{\"file\":\"log\",\"format\":{format},\"pages\":{pages}"
+                )?;
+                write!(f, ",\"records\":{records}}}")
             }
             Head::Master(master) => {
                 let (begin, end) = (master.begin.0, master.end.0);

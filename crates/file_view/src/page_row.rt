@@ -1,9 +1,10 @@
 //! The line of a page.
 
-ghost use Rattle.std.specs.Prelude.{◌≡◌, ◌++◌, OnOk, codes};
+ghost use Rattle.std.specs.Prelude.{◌≡◌, ◌++◌, [], OnOk, codes, if◌then◌else◌};
 ghost use Rattle.std.specs.String.{string_bytes};
-ghost use Rattle.file_view.specs.declared.lines.Form.TheVariants.{Words};
-ghost use Rattle.file_view.specs.PageText.{page_line, slot_text, slots_text};
+ghost use Rattle.file_view.specs.declared.lines.Form.TheVariants.{Json, Words};
+ghost use Rattle.file_view.specs.PageText.{page_json, page_line, slot_json, slot_text};
+ghost use Rattle.file_view.specs.PageText.{slots_json, slots_text, with_commas};
 
 use crate::lines::Form;
 use page_core::Page;
@@ -13,6 +14,8 @@ use std::alloc::AllocError;
 pub fn put_page(text: &mut String, form: Form, page: &Page) -> Result<(), AllocError>
     ensures words { form ≡ Words → OnOk result
         (string_bytes text.new ≡ string_bytes text.old ++ (page_line page.now ++ codes "\n")) }
+    ensures json { form ≡ Json → OnOk result
+        (string_bytes text.new ≡ string_bytes text.old ++ (page_json page.now ++ codes "\n")) }
 {
     match form {
         Form::Words => put_words(text, page),
@@ -51,16 +54,40 @@ fn put_slot(text: &mut String, slot: usize, number: u64) -> Result<(), AllocErro
     write!(text, " {slot}={number}")
 }
 
-fn put_json(text: &mut String, page: &Page) -> Result<(), AllocError> {
+fn put_json(text: &mut String, page: &Page) -> Result<(), AllocError>
+    ensures { OnOk result
+        (string_bytes text.new ≡ string_bytes text.old ++ (page_json page.now ++ codes "\n")) }
+{
     let (number, lsn) = (page.number.0, page.lsn.0);
     write!(text, "{{\"page\":{number},\"lsn\":{lsn},\"slots\":[")?;
+    put_slots_json(text, &page.slots)?;
+    text.push_str("]}\n")
+}
+
+/// Puts those slots behind a text that are not 0, with a comma between each two.
+fn put_slots_json(text: &mut String, slots: &[u64]) -> Result<(), AllocError>
+    ensures { OnOk result (string_bytes text.new
+        ≡ string_bytes text.old ++ with_commas (slots_json 0 slots.now)) }
+{
     let mut is_first = true;
-    for (slot, number) in page.slots.iter().enumerate() {
+    for (slot, number) in slots.iter().enumerate() {
         if *number != 0 {
-            let comma = if is_first { "" } else { "," };
+            put_slot_json(text, is_first, slot, *number)?;
             is_first = false;
-            write!(text, "{comma}{{\"slot\":{slot},\"number\":{number}}}")?;
         }
     }
-    text.push_str("]}\n")
+    Ok(())
+}
+
+fn put_slot_json(
+    text: &mut String,
+    is_first: bool,
+    slot: usize,
+    number: u64,
+) -> Result<(), AllocError>
+    ensures { OnOk result (string_bytes text.new ≡ string_bytes text.old
+        ++ ((if is_first then [] else codes ",") ++ slot_json slot number)) }
+{
+    let comma = if is_first { "" } else { "," };
+    write!(text, "{comma}{{\"slot\":{slot},\"number\":{number}}}")
 }

@@ -1,5 +1,9 @@
 //! Shows a file.
 
+ghost use Rattle.std.specs.Prelude.{◌≡◌, ◌++◌, OnOk, codes};
+ghost use Rattle.std.specs.String.{string_bytes};
+ghost use Rattle.file_view.specs.HeadText.{head_text};
+
 use crate::copy_header::read_copy_header;
 use crate::fault::ViewFault;
 use crate::head::{Head, HeadJson};
@@ -44,7 +48,11 @@ pub fn show_file<W: Write>(
     shown
 }
 
-pub(crate) fn put_head(text: &mut String, form: Form, head: Head) -> Result<(), AllocError> {
+/// Puts the line behind a text that says what a file is.
+pub(crate) fn put_head(text: &mut String, form: Form, head: Head) -> Result<(), AllocError>
+    ensures { OnOk result
+        (string_bytes text.new ≡ string_bytes text.old ++ (head_text form head ++ codes "\n")) }
+{
     match form {
         Form::Words => writeln!(text, "{head}"),
         Form::Json => {

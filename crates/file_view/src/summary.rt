@@ -1,6 +1,6 @@
 //! What a folder has: its copies, its log, and what restores of them would do.
 
-ghost use Rattle.std.specs.Prelude.{◌≡◌, ◌-◌, ◌/◌};
+ghost use Rattle.std.specs.Prelude.{◌≡◌, ◌+◌, ◌-◌, ◌*◌, ◌/◌, ◌<◌, ◌^◌};
 
 use crate::copy_row::{CopyFlaw, CopyRow, Rows};
 use crate::fault::ViewFault;
@@ -32,7 +32,10 @@ pub struct LogFacts {
 
 impl LogFacts {
     /// Where the log ends: the LSN that its next record would have.
-    pub fn end(&self) -> Lsn {
+    pub fn end(&self) -> Lsn
+        ensures { self.now.summary.records < 2 ^ 57
+            → result ≡ 64 * self.now.summary.records + 64 }
+    {
         Lsn(
             (self.summary.records as u64)
                 .saturating_add(1)

@@ -29,11 +29,10 @@ impl Wanted {
     }
 
     /// Whether a page of an archive or of a volume is shown.
-    pub fn takes_page(&self, number: PageNo) -> bool {
-        match self.page {
-            Some(page) => page == number,
-            None => true,
-        }
+    pub fn takes_page(&self, number: PageNo) -> bool
+        ensures { IsTrue result ↔ Is self.now.page number }
+    {
+        is_page(self.page, number)
     }
 }
 

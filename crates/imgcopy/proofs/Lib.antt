@@ -1,1 +1,2 @@
 mod CopyChains
+mod Statuses

@@ -1,1 +1,4 @@
 pub mod CopyChain
+pub mod Ends
+pub mod Manifests
+pub mod ReadFiles

@@ -1,8 +1,10 @@
 //! The command `audit`.
 
-ghost use Rattle.std.specs.Prelude.{◌≡◌, ◌⊎◌, IfErr, OnOk};
+ghost use Rattle.std.specs.Prelude.{◌≡◌, ◌≢◌, ◌⊎◌, IfErr, IfNone, IfSome, OnOk};
 ghost use Rattle.std.specs.Process.{exit_status};
 ghost use Rattle.script_run.specs.Status.{status_of_audit};
+ghost use Rattle.checked_files.specs.Checked.{bytes_by};
+ghost use Rattle.imgcopy.specs.ReadFiles.{HasRightMaster, IsAudited};
 
 use crate::manifests::Checks;
 use crate::read_once::ReadOnce;
@@ -72,7 +74,11 @@ pub fn audit_checked<N: NamedFiles>(
     files: &N,
     read: (&Named<'_>, &Notes, &Checks<'_>),
     all: bool,
-) -> ExitCode {
+) -> ExitCode
+    ensures { exit_status result ≡ 0
+        → IsAudited (bytes_by (N.bytes files.now) read.entry.2.now.expected.items)
+        read.entry.0.now }
+{
     let (names, notes, checks) = read;
     let files = CheckedFiles {
         files,
@@ -89,13 +95,11 @@ fn audit_in<N: NamedFiles>(
     notes: &Notes,
     all: bool,
     checks: &Checks<'_>,
-) -> ExitCode {
-    if let Some(master) = names.master {
-        if let Err(fault) = check_master(files, rt.alloc(), names.log, master) {
-            let status = answered(rt, &fault, restore_status(&fault));
-            checks.tell_input(rt, names, &fault, notes);
-            return status;
-        }
+) -> ExitCode
+    ensures { exit_status result ≡ 0 → IsAudited (N.bytes files.now) names.now }
+{
+    if let Some(status) = refused_master(rt, files, names, notes, checks) {
+        return status;
     }
     let done = audit_files(files, rt.alloc(), names.log, names.archives);
     let status = status_of_audit(rt, &done);
@@ -110,6 +114,27 @@ fn audit_in<N: NamedFiles>(
     status
 }
 
+/// The status where the master record is refused that is named, which is told.
+fn refused_master<N: NamedFiles>(
+    rt: &HostRuntime,
+    files: &N,
+    names: &Named<'_>,
+    notes: &Notes,
+    checks: &Checks<'_>,
+) -> Option<ExitCode>
+    ensures right { IfNone result (HasRightMaster (N.bytes files.now) names.now) }
+    ensures refused { IfSome result (λ status. exit_status status ≢ 0) }
+{
+    match check_master(files, rt.alloc(), names.log, names.master?) {
+        Ok(()) => None,
+        Err(fault) => {
+            let status = answered(rt, &fault, restore_status(&fault));
+            checks.tell_input(rt, names, &fault, notes);
+            Some(status)
+        }
+    }
+}
+
 /// Tells the other unsound pages, each with the first copy up to which the chain has it so.
 fn told_others<N: NamedFiles>(
     rt: &HostRuntime,
@@ -117,7 +142,9 @@ fn told_others<N: NamedFiles>(
     names: &Named<'_>,
     first: (CopyId, PageNo),
     status: ExitCode,
-) -> ExitCode {
+) -> ExitCode
+    ensures { (result ≡ status) ⊎ (exit_status result ≡ 2) }
+{
     let found = match unsound_pages(files, rt.alloc(), names.log, names.archives) {
         Ok(found) => found,
         Err(fault) => {

@@ -1,5 +1,11 @@
 //! The commands `backup` and `renew`.
 
+ghost use Rattle.std.specs.Prelude.{◌≡◌, IsSome, IsTrue};
+ghost use Rattle.std.specs.Process.{exit_status};
+ghost use Rattle.open_database.specs.Backups.{WasBackedUp};
+ghost use Rattle.open_database.specs.ClosedVolume.{WasRenewed};
+ghost use Rattle.imgcopy.specs.Ends.{status_of_closed};
+
 use crate::output::{parts_of, tell};
 use open_database::{BackupCall, OpenEnd, RenewCall, backup_folder, renew_folder};
 use script_run::FAULT_STATUS;
@@ -13,7 +19,10 @@ For more information, try '--help'.";
 
 /// Makes a checkpoint and an image copy of the closed database in this folder: on the copy of this
 /// number, or on the newest one, or a full copy.
-pub(crate) fn backup(rt: &HostRuntime, call: &BackupCall<'_>) -> ExitCode {
+pub(crate) fn backup(rt: &HostRuntime, call: &BackupCall<'_>) -> ExitCode
+    ensures done { exit_status result ≡ 0 → WasBackedUp call.now.full call.now.on }
+    ensures both { IsTrue call.now.full → IsSome call.now.on → exit_status result ≡ 2 }
+{
     if call.full && call.on.is_some() {
         let _ = eprintln!(rt; "{ON_AND_FULL}");
         return ExitCode::from(FAULT_STATUS);
@@ -22,7 +31,9 @@ pub(crate) fn backup(rt: &HostRuntime, call: &BackupCall<'_>) -> ExitCode {
 }
 
 /// Makes a database in the new folder of the numbers of the closed one in the old folder.
-pub(crate) fn renew(rt: &HostRuntime, old: &str, new: &str) -> ExitCode {
+pub(crate) fn renew(rt: &HostRuntime, old: &str, new: &str) -> ExitCode
+    ensures { exit_status result ≡ 0 → WasRenewed }
+{
     let path = new.trim_end_matches('/');
     let Some((folder, name)) = parts_of(path) else {
         tell(rt, new, &"this names no folder");
@@ -31,7 +42,9 @@ pub(crate) fn renew(rt: &HostRuntime, old: &str, new: &str) -> ExitCode {
     status_of(renew_folder(rt, &RenewCall { old, folder, name }))
 }
 
-fn status_of(end: OpenEnd) -> ExitCode {
+fn status_of(end: OpenEnd) -> ExitCode
+    ensures { exit_status result ≡ status_of_closed end }
+{
     match end {
         OpenEnd::Well => ExitCode::SUCCESS,
         OpenEnd::Refused | OpenEnd::Failed => ExitCode::from(FAULT_STATUS),

@@ -180,6 +180,7 @@ fn length_of(rt: &HostRuntime, name: &str, notes: &Notes) -> Option<u64> {
     }
 }
 
+/// Tells that a file of this name is a folder, a pipe or a device: none of these is opened.
 pub fn tell_irregular(rt: &impl Eprint, name: &str) {
     let name = Escaped(name);
     let _ = rt.eprintln(&ViewFault::ReadFault);
@@ -214,6 +215,17 @@ pub fn written(rt: &HostRuntime, text: &str) -> bool {
             false
         }
     }
+}
+
+/// Whether the log of a folder is there and right; what is wrong with it is told.
+pub fn has_right_log(rt: &HostRuntime, folder: &str) -> Result<bool, AllocError> {
+    let name = format!(in rt.alloc(); "{folder}/log")?;
+    let input = Notes::new();
+    let found = match log_bytes(rt, name.as_str(), &input) {
+        Ok(bytes) => facts_of(rt.alloc(), &bytes),
+        Err(fault) => Err(fault),
+    };
+    Ok(is_log_right(rt, name.as_str(), &found, &input))
 }
 
 /// Whether the log is right; what is wrong with it is told.

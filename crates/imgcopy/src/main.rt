@@ -1,11 +1,13 @@
 //! The program: its words, its input and output, and its status.
 #![tactic(auto)]
 
-ghost use Rattle.std.specs.Prelude.{◌≡◌, ◌≢◌, ◌⊎◌, IfErr, IfSome, OnOk};
+ghost use Rattle.std.specs.Prelude.{ℕ, ◌≡◌, ◌≢◌, ◌⊎◌, IfErr, IfSome, List, None, OnOk, Option};
 ghost use Rattle.std.specs.Process.{exit_status};
 ghost use Rattle.buffer_pool.specs.Pool.{IsFrameCount};
 ghost use Rattle.log_records.specs.Log.{IsPageCount};
+ghost use Rattle.open_database.specs.WholeLives.{LivedByAllLines};
 ghost use Rattle.script_run.specs.Status.{status_of_finish};
+ghost use Rattle.imgcopy.specs.Ends.{status_of_opened};
 
 mod advice;
 mod audits;
@@ -448,8 +450,16 @@ fn finish(
 fn open(rt: &HostRuntime, call: &OpenCall<'_>) -> ExitCode
     requires pages { IfSome call.now.pages IsPageCount }
     requires frames { IsFrameCount call.now.frames }
+    ensures { exit_status result ≢ 2 → (written : Option (List ℕ))
+        × LivedByAllLines None None call.now.salvage call.now.pages call.now.frames None written }
 {
-    match open_folder(rt, call) {
+    status_of_open(open_folder(rt, call))
+}
+
+fn status_of_open(end: OpenEnd) -> ExitCode
+    ensures { exit_status result ≡ status_of_opened end }
+{
+    match end {
         OpenEnd::Well => ExitCode::SUCCESS,
         OpenEnd::Refused => ExitCode::from(REFUSED_STATUS),
         OpenEnd::Failed => ExitCode::from(FAULT_STATUS),

@@ -1,6 +1,9 @@
 //! What manifests say of the files that a command reads. One stands beside them, as `manifest`, or
 //! is told.
 
+ghost use Rattle.std.specs.Prelude.{◌≡◌, ◌<◌, ◌↔◌, IsSome, IsTrue, OnOk, option_map};
+ghost use Rattle.imgcopy.specs.Manifests.{TakesUp, manifest_in};
+
 use crate::advice::{tell_audited, tell_input};
 use crate::output::parts_of;
 use crate::reasons::{FIRST_ARCHIVE, Named, what_stands};
@@ -207,7 +210,9 @@ impl<'a> Checks<'a> {
     }
 
     /// Takes up what is known of a file.
-    fn take(&mut self, name: &'a str, known: &Known) -> Result<(), AllocError> {
+    fn take(&mut self, name: &'a str, known: &Known) -> Result<(), AllocError>
+        ensures { OnOk result (TakesUp name.entry known.now self.old self.new) }
+    {
         match known {
             Known::Nothing => Ok(()),
             Known::Unnamed => Ok(self.unnamed.push(name)?),
@@ -250,7 +255,9 @@ impl OtherFile<'_> {
 }
 
 /// Of a log that counts up to a record not all is read, and no master record.
-fn is_in_part(names: &Named<'_>, place: usize) -> bool {
+fn is_in_part(names: &Named<'_>, place: usize) -> bool
+    ensures { IsTrue result ↔ (IsSome names.now.until × (place < 2)) }
+{
     names.until.is_some() && place < FIRST_ARCHIVE
 }
 
@@ -258,7 +265,10 @@ fn is_found(found: &[Beside<'_>], folder: &str) -> bool {
     found.iter().any(|it| it.folder == folder)
 }
 
-fn manifest_among<'b>(found: &'b [Beside<'_>], folder: &str) -> Option<&'b Manifest> {
+/// The manifest that was found in a folder.
+fn manifest_among<'b>(found: &'b [Beside<'_>], folder: &str) -> Option<&'b Manifest>
+    ensures { option_map (λ it. it.now) result ≡ manifest_in found.now folder.now }
+{
     for it in found {
         if it.folder == folder {
             return it.manifest.as_ref();

@@ -1,5 +1,8 @@
 //! What is wrong with a file that was refused, for a person: the file is read once more.
 
+ghost use Rattle.std.specs.Prelude.{◌≡◌, ◌+◌, length, option_map};
+ghost use Rattle.imgcopy.specs.ReadFiles.{name_at};
+
 use crate::chain_reason::ChainReason;
 use crate::headers::{FileKind, kind_of, last_kind};
 use checked_files::ManifestUse;
@@ -7,7 +10,7 @@ use copy_audit::Unsound;
 use copy_vault::{ArchiveFault, CopyId};
 use file_view::{CopyHeader, ViewFault, read_copy_header};
 use log_records::{RECORD_BYTES, log_header};
-use log_store::{LogReadFault, Reached, broken_rule_at, scan_to_fault};
+use log_store::{LogReadFault, MASTER_BYTES, Reached, broken_rule_at, scan_to_fault};
 use media_restore::{RestoreFault, UntilFault};
 use page_core::field::u64_at;
 use page_core::{Lsn, PAGE_BYTES, PageNo};
@@ -35,12 +38,16 @@ pub struct Named<'a> {
 
 impl<'a> Named<'a> {
     /// How many places there are.
-    pub fn count(&self) -> usize {
-        self.archives.len().saturating_add(FIRST_ARCHIVE)
+    pub fn count(&self) -> usize
+        ensures { result ≡ 2 + length self.now.archives.now }
+    {
+        self.archives.len() + FIRST_ARCHIVE
     }
 
     /// The file at this place: the log, the master record, and then the archives.
-    pub fn at(&self, place: usize) -> Option<&'a str> {
+    pub fn at(&self, place: usize) -> Option<&'a str>
+        ensures { option_map (λ name. name.now) result ≡ name_at self.now place }
+    {
         match place {
             0 => Some(self.log),
             1 => self.master,
@@ -74,6 +81,8 @@ pub enum Reason {
     IsArchive,
     /// It has fewer than 64 bytes, and how many.
     IsShort(u64),
+    /// It has more bytes than a master record, and how many.
+    IsLong(u64),
     /// It begins like nothing that is known here.
     IsOther,
     /// A header of the right kind with a number or a byte that none has.
@@ -98,6 +107,8 @@ pub enum Reason {
     Pages(u32, u32),
     /// As many pages follow as its length allows, and as many as its header says.
     Count(u64, u32),
+    /// So many bytes follow the last of the pages that its header says.
+    Behind(u64, u32),
     /// The redo point of the copy, and the log's end.
     RedoPoint(u64, u64),
     /// A page whose LSN is not below the log's end.
@@ -119,6 +130,7 @@ impl fmt::Display for Reason {
             Reason::IsMaster => f.write_str("is a master record"),
             Reason::IsArchive => f.write_str("is an image copy"),
             Reason::IsShort(count) => write!(f, "has {count} bytes, and a header has 64"),
+            Reason::IsLong(count) => write!(f, "has {count} bytes, and a master record has 64"),
             Reason::IsOther => f.write_str("begins like no file of imgcopy"),
             Reason::BadHeader => f.write_str("its header has a number that none may have"),
             Reason::Kind(kind) => write!(f, "kind {kind} is that of no record"),
@@ -153,6 +165,9 @@ impl fmt::Display for Reason {
                     f,
                     "its header says {said} pages, and there is room for {there}"
                 )
+            }
+            Reason::Behind(count, said) => {
+                write!(f, "bytes follow the last of its {said} pages: {count}")
             }
             Reason::RedoPoint(redo, end) => {
                 write!(f, "its redo point {redo} is not below the log's end {end}")
@@ -372,10 +387,12 @@ fn reason_of_header(rt: &HostRuntime, name: &str, place: usize) -> Option<Reason
         Some(FileKind::Archive) => (Reason::IsArchive, FIRST_ARCHIVE),
         None => return Some(Reason::IsOther),
     };
-    if place.min(FIRST_ARCHIVE) == wanted {
-        Some(Reason::BadHeader)
-    } else {
-        Some(found)
+    if place.min(FIRST_ARCHIVE) != wanted {
+        return Some(found);
+    }
+    match (found, end_of(rt, name)?) {
+        (Reason::IsMaster, count) if count > MASTER_BYTES as u64 => Some(Reason::IsLong(count)),
+        _ => Some(Reason::BadHeader),
     }
 }
 
@@ -438,7 +455,11 @@ fn pages_before(rt: &HostRuntime, log: &str, lsn: Lsn) -> Option<u32> {
 
 fn reason_of_count(rt: &HostRuntime, name: &str) -> Option<Reason> {
     let header = archive_at(rt, name)?;
-    let there = end_of(rt, name)?.saturating_sub(RECORD_BYTES as u64) / PAGE_BYTES as u64;
+    let bytes = end_of(rt, name)?.saturating_sub(RECORD_BYTES as u64);
+    let there = bytes / PAGE_BYTES as u64;
+    if there == header.taken as u64 {
+        return Some(Reason::Behind(bytes % PAGE_BYTES as u64, header.taken));
+    }
     Some(Reason::Count(there, header.taken))
 }
 

@@ -2,7 +2,10 @@
 
 ghost use Rattle.std.specs.Prelude.{◌≡◌, IfErr, OnOk};
 ghost use Rattle.std.specs.Process.{exit_status};
+ghost use Rattle.media_restore.specs.FilesLog.{told_fault};
 ghost use Rattle.script_run.specs.Status.{status_of_restore};
+ghost use Rattle.imgcopy.specs.Ends.{status_of_end};
+ghost use Rattle.imgcopy.specs.declared.restores.Ended.TheVariants.{Well};
 
 use crate::advice::tell_unwritten;
 use crate::manifests::Checks;
@@ -44,12 +47,16 @@ pub enum Ended {
 
 impl Ended {
     /// A fault was told that is no archive's.
-    pub fn refused(status: ExitCode) -> Ended {
+    pub fn refused(status: ExitCode) -> Ended
+        ensures { status_of_end result ≡ exit_status status }
+    {
         Ended::Told(status, None)
     }
 
     /// The program's status.
-    pub fn status(self) -> ExitCode {
+    pub fn status(self) -> ExitCode
+        ensures { exit_status result ≡ status_of_end self }
+    {
         match self {
             Ended::Well => ExitCode::SUCCESS,
             Ended::Told(status, _) => status,
@@ -262,7 +269,9 @@ fn told_with_log(
     fault: WithLogFault,
     volume: (Option<&str>, &Notes),
     log: (Option<&str>, &Notes),
-) -> Ended {
+) -> Ended
+    ensures { status_of_end result ≡ status_of_restore (told_fault fault) }
+{
     match fault {
         WithLogFault::OfLog(_) => told(rt, read, &Err(fault.told()), log),
         WithLogFault::OfVolume(fault) => told(rt, read, &Err(fault), volume),
@@ -276,16 +285,31 @@ fn told(
     read: (&Named<'_>, &Notes, &Checks<'_>),
     done: &Result<(), RestoreFault>,
     output: (Option<&str>, &Notes),
-) -> Ended {
-    let (names, notes, checks) = read;
+) -> Ended
+    ensures done { OnOk done.now (result ≡ Well) }
+    ensures fault { IfErr done.now (λ fault. status_of_end result ≡ status_of_restore fault) }
+{
     let status = status_of_files(rt, done);
-    match (done, output) {
-        (Ok(()), _) => return Ended::Well,
-        (Err(RestoreFault::WriteFault(_)), (Some(path), written)) => tell_output(rt, path, written),
-        (Err(RestoreFault::WriteFault(_)), (None, written)) => tell_unwritten(rt, written),
-        (Err(fault), _) => checks.tell_input(rt, names, fault, notes),
+    let Err(fault) = done else {
+        return Ended::Well;
+    };
+    tell_met(rt, read, fault, output);
+    Ended::Told(status, spoiled_by(done, read.1))
+}
+
+/// Tells where a fault was met that was told.
+fn tell_met(
+    rt: &HostRuntime,
+    read: (&Named<'_>, &Notes, &Checks<'_>),
+    fault: &RestoreFault,
+    output: (Option<&str>, &Notes),
+) {
+    let (names, notes, checks) = read;
+    match (fault, output) {
+        (RestoreFault::WriteFault(_), (Some(path), written)) => tell_output(rt, path, written),
+        (RestoreFault::WriteFault(_), (None, written)) => tell_unwritten(rt, written),
+        _ => checks.tell_input(rt, names, fault, notes),
     }
-    Ended::Told(status, spoiled_by(done, notes))
 }
 
 /// The archive that could not be read, or that is none by itself. Where one does not go with the

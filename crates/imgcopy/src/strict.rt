@@ -1,5 +1,7 @@
 //! Which calls of a run were refused, for `run --strict`.
 
+ghost use Rattle.std.specs.Prelude.{◌≡◌};
+
 use std::io::{Read, Write};
 use std::{fmt, io};
 
@@ -17,6 +19,7 @@ pub struct Kept<R> {
 }
 
 impl<R> Kept<R> {
+    /// Reads on from a reader of which these bytes were read, and keeps at most so many.
     pub fn new(reader: R, bytes: Vec<u8>, most: usize) -> Kept<R> {
         Kept {
             reader,
@@ -38,7 +41,13 @@ impl<R> Kept<R> {
         }
     }
 
-    fn keep(&mut self, given: &[u8]) {
+    /// Keeps the first bytes of a buffer, so many.
+    fn keep(&mut self, buf: &[u8], count: usize)
+        ensures { self.new.reader ≡ self.old.reader }
+    {
+        let Some(given) = buf.get(..count) else {
+            return;
+        };
         if self.is_cut {
             return;
         }
@@ -48,11 +57,11 @@ impl<R> Kept<R> {
 }
 
 impl<R: Read> Read for Kept<R> {
+    ghost remaining = { λ it. R.remaining it.reader };
+
     fn read(&mut self, buf: &mut [u8]) -> io::Result<usize> {
         let count = self.reader.read(buf)?;
-        if let Some(given) = buf.get(..count) {
-            self.keep(given);
-        }
+        self.keep(buf, count);
         Ok(count)
     }
 }
@@ -67,6 +76,7 @@ pub struct Tallied<W> {
 }
 
 impl<W> Tallied<W> {
+    /// A writer whose lines are counted, if they are to be.
     pub fn new(writer: W, counts: bool) -> Tallied<W> {
         Tallied {
             writer,
@@ -75,22 +85,21 @@ impl<W> Tallied<W> {
         }
     }
 
+    /// How many lines went through, and of which kind.
     pub fn tally(&self) -> &Tally {
         &self.tally
     }
 }
 
 impl<W: Write> Write for Tallied<W> {
+    ghost contents = { λ it. W.contents it.writer };
+
     fn write(&mut self, buf: &[u8]) -> io::Result<usize> {
         let count = self.writer.write(buf)?;
         if !self.counts {
             return Ok(count);
         }
-        if let Some(taken) = buf.get(..count) {
-            for byte in taken {
-                self.tally.take(*byte);
-            }
-        }
+        self.tally.take_first(buf, count);
         Ok(count)
     }
 
@@ -131,6 +140,15 @@ impl Tally {
             return None;
         }
         Some(self.first)
+    }
+
+    /// Takes the first bytes of a buffer, so many.
+    fn take_first(&mut self, buf: &[u8], count: usize) {
+        if let Some(taken) = buf.get(..count) {
+            for byte in taken {
+                self.take(*byte);
+            }
+        }
     }
 
     /// Takes one more byte of the replies' lines.

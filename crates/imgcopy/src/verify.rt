@@ -1,6 +1,6 @@
 //! The command `verify`.
 
-use crate::list::{header_of, ids_in, is_irregular, written};
+use crate::list::{has_right_log, header_of, ids_in, is_irregular, written};
 use crate::manifests::manifest_for;
 use checked_files::{Known, ManifestUse, ReadFile, known_file};
 use copy_audit::{Sound, Unsound};
@@ -32,8 +32,9 @@ struct SummedFile {
 }
 
 /// Sums each file that the manifest of a folder names, side by side, and audits each copy there, with
-/// those that it stands on, against the log, and the master record too. A line for each goes to
-/// standard output, and nothing is changed. The status is 0 where all are sound.
+/// those that it stands on, against the log, and the master record too. Where there is no copy, the
+/// log is read. A line for each goes to standard output, and nothing is changed. The status is 0
+/// where all are sound.
 pub fn verify(
     rt: &HostRuntime,
     threads: &(impl Threads + Sync),
@@ -70,7 +71,11 @@ fn verified(
         }
     };
     let are_named = files_are_named(rt, threads, folder, manifest, text)?;
-    let are_sound = copies_are_sound(rt, folder, ids.as_slice(), text)?;
+    let are_sound = if ids.is_empty() {
+        has_right_log(rt, folder)?
+    } else {
+        copies_are_sound(rt, folder, ids.as_slice(), text)?
+    };
     Ok(are_named && are_sound)
 }
 

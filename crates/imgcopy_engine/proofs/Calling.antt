@@ -1,5 +1,5 @@
 -- Calls of a user, one behind the other: their receipts, and what is told of them.
-use Rattle.std.proofs.Common.{ℕ, ◌≡◌, ◌+◌, ◌++◌, ◌∷◌, List, [], Ok, Err, IfErr, MutBor, ap, append_assoc, arith, length}
+use Rattle.std.proofs.Common.{ℕ, ◌≡◌, ◌+◌, ◌++◌, ◌∷◌, List, [], Ok, Err, IfErr, MutBor, ap, append_assoc, arith}
 use Rattle.std.proofs.Common.{refl, subst, sym, ◌∙◌}
 use Rattle.std.specs.Prelude.{IsErrAnd, Result}
 use Rattle.std.specs.Fn.{Once}

@@ -1,5 +1,5 @@
 -- A log's file that was read, and has what undo appended: the calls that were made of it go on.
-use Rattle.std.proofs.Common.{ℕ, ◌≡◌, List, [], ◌∷◌, ◌++◌, append-nil, append_assoc, sym, ap, refl, ◌∙◌}
+use Rattle.std.proofs.Common.{ℕ, ◌≡◌, List, [], ◌∷◌, ◌++◌, append-nil, append_assoc, sym, ap, ◌∙◌}
 use Rattle.std.specs.Prelude.{Result}
 use Rattle.file_devices.specs.Calls.{done}
 use Rattle.file_devices.specs.FileLog.{LogOnDisk, Stores, Syncs, puts_of}
@@ -9,7 +9,7 @@ use Rattle.log_records.specs.declared.record.Record.{Record}
 use Rattle.log_records.specs.Log.{Log}
 use Rattle.log_store.specs.declared.device.DeviceFault.{DeviceFault}
 use Rattle.log_store.specs.Stores.{ForcesBetween, StoresEach, in_one_sync, nothing}
-use Rattle.engine_restart.specs.LogFile.{WasReadWhole}
+use Rattle.engine_restart.specs.LogFile.{WasReadAndKept}
 use Rattle.engine_restart.specs.Restart.{ForcesMore}
 
 -- calls came behind these
@@ -43,11 +43,11 @@ module _ {D : Type 0} where
       → GoesOn old.calls new.calls
   calls_go_on log more old new forced = between_goes_on more.records _ _ old new forced
 
-pub still_read : (len : ℕ) (bytes : List ℕ) (old new : List FileCall) → WasReadWhole len bytes old → GoesOn old new
-    → WasReadWhole len bytes new
-still_read len bytes old new was more = record {
-  first = was.first;
+-- calls that come behind change nothing of how a file was read, and its front stored again
+pub still_read : (len : ℕ) (bytes front : List ℕ) (old new : List FileCall) → WasReadAndKept len bytes front old
+    → GoesOn old new → WasReadAndKept len bytes front new
+still_read len bytes front old new was more = record {
+  all = was.all;
   later = was.later ++ more.0;
-  calls = more.1 ∙ ap (λ cs. cs ++ more.0) was.calls ∙ append_assoc was.first was.later more.0;
-  whole = was.whole;
+  calls = more.1 ∙ ap (λ cs. cs ++ more.0) was.calls;
 }

@@ -5,10 +5,12 @@ use Rattle.std.specs.List.{All}
 use Rattle.std.proofs.lemmas.List.{get_or-map, length-map, map-append}
 use Rattle.std.proofs.lemmas.List.Elements.{All-push}
 use Rattle.settlement.specs.declared.receipt.Receipt.{Receipt}
-use Rattle.engine_run.specs.Settled.{Evidence, IsSettled}
+use Rattle.engine_run.specs.Settled.{Evidence, IsFaultOf, IsSettled}
 use Rattle.engine_run.specs.declared.beginning.Beginning.{Beginning}
+use Rattle.engine_run.specs.declared.fault.SettleFault.{SettleFault}
+use Rattle.engine_run.specs.declared.fault.SettleFault.TheVariants as settle
 use Rattle.engine_run.specs.declared.work.Work.{Work}
-use Rattle.imgcopy_engine.specs.Run.{HaveWorked, TaskWork}
+use Rattle.imgcopy_engine.specs.Run.{HaveWorked, IsToldOf, TaskWork}
 
 -- one more at the end
 pub map_pushed : {X Y : Type 0} (f : X → Y) (xs ys : List X) (x : X) (zs : List Y) → ys ≡ xs ++ x ∷ []
@@ -66,3 +68,18 @@ settled_on {from = from} {e = e} {sessions = sessions} {told = told} {works = wo
     subst (λ (ws : List Work). IsSettled from e told ws) w
     (subst (λ (ss : List (List Receipt)). IsSettled from e ss works) s
     (subst (λ (it : Beginning). IsSettled it e sessions works) b settled))
+
+-- ---- why a run is not settled
+
+told_of : (began : Beginning) (e : Evidence) (sessions : List (List Receipt)) (works : List Work) (why : SettleFault)
+    → IsFaultOf began e sessions works why → IsToldOf began sessions works why
+told_of began e sessions works settle.OutOfMemory is = tt
+told_of began e sessions works (settle.Unsettled at) is = (e, is)
+
+pub told_on : (began : Beginning) (e : Evidence) (sessions : List (List Receipt)) (works : List Work) (why : SettleFault)
+    → {from : Beginning} {told : List (List Receipt)} {all : List Work} → IsFaultOf began e sessions works why
+    → began ≡ from → sessions ≡ told → works ≡ all → IsToldOf from told all why
+told_on began e sessions works why {from = from} {told = told} is b s w =
+    subst (λ (ws : List Work). IsToldOf from told ws why) w
+    (subst (λ (ss : List (List Receipt)). IsToldOf from ss works why) s
+    (subst (λ (it : Beginning). IsToldOf it sessions works why) b (told_of began e sessions works why is)))

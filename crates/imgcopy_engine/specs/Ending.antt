@@ -1,5 +1,5 @@
 -- How a transaction of a user ends.
-use Rattle.std.specs.Prelude.{ℕ, ◌≡◌, ◌≤◌, ◌++◌, ◌∷◌, ◌⊎◌, [], List, length, Result, Ok, Err}
+use Rattle.std.specs.Prelude.{ℕ, ◌≡◌, ◌++◌, ◌∷◌, ◌⊎◌, [], List, length, Result, Ok, Err}
 use Rattle.std.specs.List.{All}
 use Rattle.log_records.specs.declared.limits.TheConstants.{MAX_RECORDS}
 use Rattle.settlement.specs.declared.receipt.Receipt.{Receipt}

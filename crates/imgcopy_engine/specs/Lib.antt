@@ -27,6 +27,8 @@ pub use Rattle.saved_files.specs as saved_files
 pub use Rattle.settlement.specs as settlement
 pub use Rattle.txn_table.specs as txn_table
 pub mod Ending
+pub mod Reopened
 pub mod Run
+pub mod StopText
 pub mod Taken
 pub mod Trying

@@ -1,12 +1,19 @@
 -- How the run of a program's tasks ends.
-use Rattle.std.specs.Prelude.{ℕ, ◌≡◌, ◌<◌, List, [], length, slice_index_or}
+use Rattle.std.specs.Prelude.{ℕ, ◌≡◌, ◌<◌, ◌++◌, List, [], length, slice_index_or}
+use Rattle.std.specs.Prelude.{Option, None, Some, codes}
 use Rattle.std.specs.List.{flat_map}
 use Rattle.settlement.specs.declared.receipt.Receipt.{Receipt}
 use Rattle.copy_coverage.specs.Retired.{RetiredView}
-use Rattle.engine_run.specs.Settled.{IsSettled, evidence_in}
+use Rattle.page_core.specs.FaultName.{fault_line}
+use Rattle.page_core.specs.declared.fault_name.FaultName.TheVariants as name
+use Rattle.engine_calls.specs.Refusal.{line_of_fault}
+use Rattle.engine_run.specs.Settled.{Evidence, IsSettled, IsWrongAt, evidence_in}
 use Rattle.engine_run.specs.declared.beginning.Beginning.{Beginning}
+use Rattle.engine_run.specs.declared.fault.SettleFault.{SettleFault}
+use Rattle.engine_run.specs.declared.fault.SettleFault.TheVariants as settle
 use Rattle.engine_run.specs.declared.work.Work.{Work}
 use Rattle.imgcopy_engine.specs.declared.run.RunFault.{RunFault}
+use Rattle.imgcopy_engine.specs.declared.run.RunFault.TheVariants.{NoEngine, OutOfMemory}
 use Rattle.imgcopy_engine.specs.declared.run.RunFault.TheVariants.{TooManyTasks, Unsettled}
 
 -- what a task's work makes of it: the task before, the task after, the receipts of its session, and
@@ -37,11 +44,32 @@ pub record WasSettled {T : Type 0} (worked : TaskWork T) (began : Beginning) (ol
   pub have_worked : HaveWorked worked old new sessions works
   pub settled : IsSettled began (evidence_in left) sessions (all_works works)
 
--- each task has worked where the run is not settled; at each other fault none of them has. There are
--- too many only if they are more than an engine has sessions
-abbrev pub WasTried : {T : Type 0} → TaskWork T → RunFault → List T → List T → Type 0
-WasTried worked (Unsettled why) old new =
-    (sessions : List (List Receipt)) × (works : List (List Work))
-    × HaveWorked worked old new sessions works
-WasTried worked TooManyTasks old new = (new ≡ old) × (64 < length old)
-WasTried worked other old new = new ≡ old
+-- where what was answered is not settled, the LSN that is told is that of something wrong in it, by
+-- what some run left
+abbrev pub IsToldOf : Beginning → List (List Receipt) → List Work → SettleFault → Type 0
+IsToldOf began sessions works settle.OutOfMemory = Unit {0}
+IsToldOf began sessions works (settle.Unsettled at) =
+    (e : Evidence) × IsWrongAt began e sessions works at
+
+-- each task has worked where the run is not settled, and the fault is of what they were answered,
+-- beside what was there before; at each other fault none of them has. There are too many only if
+-- they are more than an engine has sessions
+abbrev pub WasTried : {T : Type 0} → TaskWork T → (Beginning → Type 0) → RunFault → List T → List T
+    → Type 0
+WasTried worked IsBegan (Unsettled why) old new =
+    (began : Beginning) × IsBegan began × (sessions : List (List Receipt)) × (works : List (List Work))
+    × HaveWorked worked old new sessions works × IsToldOf began sessions (all_works works) why
+WasTried worked IsBegan TooManyTasks old new = (new ≡ old) × (64 < length old)
+WasTried worked IsBegan other old new = new ≡ old
+
+-- there was an engine
+abbrev pub IsOfEngine : RunFault → Type 0
+IsOfEngine (NoEngine why) = ⊥
+IsOfEngine other = Unit {0}
+
+-- what is printed of it. What is said of a run that is not settled is told by no clause
+abbrev pub text_of : RunFault → Option (List ℕ)
+text_of (NoEngine why) = Some (codes "no engine: " ++ line_of_fault why)
+text_of TooManyTasks = Some (codes "more tasks than an engine has sessions")
+text_of OutOfMemory = Some (fault_line name.OutOfMemory)
+text_of (Unsettled why) = None

@@ -1,10 +1,12 @@
 //! A database on two files that is opened again.
 
-ghost use Rattle.std.specs.Prelude.{◌≡◌, IfOk};
+ghost use Rattle.std.specs.Prelude.{◌≡◌, IfErr, IfOk};
 ghost use Rattle.buffer_pool.specs.Pool.{IsFrameCount};
 ghost use Rattle.log_front.specs.Front.{IsFrontOf};
-ghost use Rattle.engine_restart.specs.LogFile.{GoesOnFromFile, LastsOnFile, WasReadWhole};
+ghost use Rattle.log_records.specs.Log.{log_bytes};
+ghost use Rattle.engine_restart.specs.LogFile.{GoesOnFromFile, LastsOnFile, WasReadAndKept};
 ghost use Rattle.engine_rules.specs.EngineState.{log_of};
+ghost use Rattle.imgcopy_engine.specs.Reopened.{IsNotReopened};
 ghost use Rattle.imgcopy_engine.specs.Taken.{TakesUp};
 
 use crate::taking_up::{RefusedCopy, take_up};
@@ -41,21 +43,26 @@ pub enum ReopenFault {
     TooLong(u64),
     /// The file of the log cannot be read, or that of the volume not be written.
     File(FailedFile),
-    /// The file of the log has no header of a log.
-    Found(FoundFault),
+    /// The file of the log has no header of a log. This hands it back.
+    Found(FoundFault, FileLog),
     /// What was open in the log could not be taken back, or a call of the log's file failed before
-    /// that, once the log was found.
-    Restart(RestartFault),
+    /// that, once the log was found. This hands the file back. It still begins with the log, but for
+    /// a failed call before undo.
+    Restart(RestartFault, FileLog),
 }
 
 impl fmt::Display for ReopenFault {
+    ghost use Rattle.imgcopy_engine.specs.Reopened.{text_of};
+
+    ghost output = { λ fault. text_of fault };
+
     fn fmt<W: fmt::Write>(&self, f: &mut fmt::Formatter<W>) -> fmt::Result {
         match self {
             ReopenFault::OutOfMemory => write!(f, "{}", FaultName::OutOfMemory),
             ReopenFault::TooLong(_) => write!(f, "{}", FaultName::TooLong),
             ReopenFault::File(why) => write!(f, "{why}"),
-            ReopenFault::Found(why) => write!(f, "{why}"),
-            ReopenFault::Restart(why) => write!(f, "{why}"),
+            ReopenFault::Found(why, _) => write!(f, "{why}"),
+            ReopenFault::Restart(why, _) => write!(f, "{why}"),
         }
     }
 }
@@ -72,12 +79,17 @@ impl From<AllocError> for ReopenFault {
 }
 
 impl From<FoundLogFault> for ReopenFault {
+    ghost use Rattle.std.specs.Prelude.{◌≡◌};
+    ghost use Rattle.imgcopy_engine.specs.Reopened.{of_found};
+
+    ghost from_gives = { λ why fault. fault ≡ of_found why };
+
     fn from(fault: FoundLogFault) -> ReopenFault {
         match fault {
             FoundLogFault::OutOfMemory => ReopenFault::OutOfMemory,
             FoundLogFault::TooLong(len) => ReopenFault::TooLong(len),
             FoundLogFault::File(why) => ReopenFault::File(why),
-            FoundLogFault::Found(why, _) => ReopenFault::Found(why),
+            FoundLogFault::Found(why, file) => ReopenFault::Found(why, file),
         }
     }
 }
@@ -86,6 +98,10 @@ impl From<FoundLogFault> for ReopenFault {
 /// of the copies that are at hand, those on which others stand first. All of the file is read; what
 /// stands behind the log in it is cut off; what was open is taken back on the log, and each slot has
 /// its committed number. The file of the volume is emptied, and gets the pages that the log makes.
+///
+/// `TooLong` comes before anything is asked of the log's file. `Found` and `Restart` hand that file
+/// back: `Found` where it was read alone, and `Restart` as it says. `File` tells the calls of the
+/// file that failed.
 pub fn reopen_files(
     alloc: Global,
     frames: u32,
@@ -98,6 +114,7 @@ pub fn reopen_files(
         GoesOnFromFile log.1 it.cut it.engine.device.calls it.engine.state) }
     ensures copies { IfOk result (λ it. TakesUp (log_of it.engine.state) copies.items
         it.refused.items it.engine.state.copies) }
+    ensures fault { IfErr result (IsNotReopened log.1) }
 {
     let (file, len) = log;
     let FoundLog { front, device, .. } = log_alone(alloc, file, len)?;
@@ -106,7 +123,7 @@ pub fn reopen_files(
     let _count = front.log().pages();
     let (mut restarted, device) = match restart(alloc, front, device) {
         Ok(it) => it,
-        Err((fault, _)) => return Err(ReopenFault::Restart(fault)),
+        Err((fault, device)) => return Err(ReopenFault::Restart(fault, device)),
     };
     let refused = take_up(alloc, &mut restarted, copies)?;
     let store = match FileStore::new(volume, store_of(alloc, restarted.pages())?) {
@@ -127,13 +144,15 @@ pub fn reopen_files(
 /// off, and that lasts, before a record is stored there: else a loss of power might leave old records
 /// behind new ones.
 fn log_alone(alloc: Global, file: File, len: u64) -> Result<FoundLog, ReopenFault>
-    ensures read { IfOk result (λ it. WasReadWhole len it.bytes.items it.device.calls) }
+    ensures read { IfOk result (λ it.
+        WasReadAndKept len it.bytes.items (log_bytes it.front.log) it.device.calls) }
     ensures front { IfOk result (λ it. IsFrontOf it.bytes.items it.front) }
     ensures lasting { IfOk result (λ it. LastsOnFile it.front.log it.device) }
+    ensures fault { IfErr result (IsNotReopened len) }
 {
     let mut found = found_log(alloc, file, len)?;
     match found.keep_front() {
         Ok(()) => Ok(found),
-        Err(_) => Err(ReopenFault::Restart(RestartFault::LogFault)),
+        Err(_) => Err(ReopenFault::Restart(RestartFault::LogFault, found.device)),
     }
 }

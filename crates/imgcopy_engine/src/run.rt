@@ -1,12 +1,13 @@
 //! A program on a shared engine: its tasks, each in a thread of its own.
 
-ghost use Rattle.std.specs.Prelude.{◌≡◌, [], IfErr, IfOk};
+ghost use Rattle.std.specs.Prelude.{◌≡◌, ◌≤◌, [], IfErr, IfOk};
 ghost use Rattle.page_core.specs.Volume.{formatted_pages};
 ghost use Rattle.buffer_pool.specs.Pool.{IsFrameCount};
 ghost use Rattle.log_records.specs.Log.{IsPageCount};
 ghost use Rattle.engine_run.specs.Beginning.{IsBeginning};
 ghost use Rattle.engine_run.specs.declared.beginning.Beginning.{Beginning};
-ghost use Rattle.imgcopy_engine.specs.Run.{TaskWork, WasSettled, WasTried};
+ghost use Rattle.imgcopy_engine.specs.Run.{IsOfEngine, TaskWork, WasSettled, WasTried};
+ghost use Rattle.imgcopy_engine.specs.declared.run.RunFault.TheVariants.{NoEngine};
 
 use crate::client::Client;
 use crate::seats::{give_back, seats_of, sessions_of, work_all, works_of};
@@ -57,6 +58,10 @@ pub enum RunFault {
 }
 
 impl fmt::Display for RunFault {
+    ghost use Rattle.imgcopy_engine.specs.Run.{text_of};
+
+    ghost output = { λ fault. text_of fault };
+
     fn fmt<W: fmt::Write>(&self, f: &mut fmt::Formatter<W>) -> fmt::Result {
         match self {
             RunFault::NoEngine(why) => write!(f, "no engine: {why}"),
@@ -94,7 +99,10 @@ where
         (WasSettled T.worked (record { records = 0; last_copy = 0 }) tasks.old.items
         tasks.new.items) }
     ensures tried { IfErr result (λ why.
-        WasTried T.worked why tasks.old.items tasks.new.items) }
+        WasTried T.worked (λ began. began ≡ record { records = 0; last_copy = 0 }) why
+        tasks.old.items tasks.new.items) }
+    ensures past_bound { IfErr result (λ why. why ≡ NoEngine PlayFault.LogFault
+        → D.fails_from device ≤ 64) }
 {
     new_with::<S, D, Brand, R, T>(rt, alloc, Blank::new(65), setup, store, device, tasks)
 }
@@ -124,7 +132,10 @@ where
         (WasSettled T.worked (record { records = 0; last_copy = 0 }) tasks.old.items
         tasks.new.items) }
     ensures tried { IfErr result (λ why.
-        WasTried T.worked why tasks.old.items tasks.new.items) }
+        WasTried T.worked (λ began. began ≡ record { records = 0; last_copy = 0 }) why
+        tasks.old.items tasks.new.items) }
+    ensures past_bound { IfErr result (λ why. why ≡ NoEngine PlayFault.LogFault
+        → D.fails_from device ≤ 64) }
 {
     match Shared::<S, D, G>::new(alloc, blank, setup, store, device) {
         Ok(shared) => run_tasks(rt, alloc, shared, tasks),
@@ -146,8 +157,9 @@ where
     T: Task<R> + Send + Drop,
     ensures settled { IfOk result (λ left. (began : Beginning) × IsBeginning engine.state began
         × WasSettled T.worked began tasks.old.items tasks.new.items left) }
-    ensures tried { IfErr result (λ why.
-        WasTried T.worked why tasks.old.items tasks.new.items) }
+    ensures tried { IfErr result (λ why. WasTried T.worked (IsBeginning engine.state) why
+        tasks.old.items tasks.new.items) }
+    ensures engine { IfErr result IsOfEngine }
 {
     on_with::<S, D, Brand, R, T>(rt, alloc, Blank::new(65), engine, tasks)
 }
@@ -170,8 +182,9 @@ where
     requires sessions { blank.parts ≡ 65 }
     ensures settled { IfOk result (λ left. (began : Beginning) × IsBeginning engine.state began
         × WasSettled T.worked began tasks.old.items tasks.new.items left) }
-    ensures tried { IfErr result (λ why.
-        WasTried T.worked why tasks.old.items tasks.new.items) }
+    ensures tried { IfErr result (λ why. WasTried T.worked (IsBeginning engine.state) why
+        tasks.old.items tasks.new.items) }
+    ensures engine { IfErr result IsOfEngine }
 {
     match Shared::<S, D, G>::resume(alloc, blank, engine) {
         Ok(shared) => run_tasks(rt, alloc, shared, tasks),
@@ -195,8 +208,9 @@ where
     requires none { shared.sessions ≡ 0 }
     ensures settled { IfOk result
         (WasSettled T.worked shared.began tasks.old.items tasks.new.items) }
-    ensures tried { IfErr result (λ why.
-        WasTried T.worked why tasks.old.items tasks.new.items) }
+    ensures tried { IfErr result (λ why. WasTried T.worked (λ began. began ≡ shared.began) why
+        tasks.old.items tasks.new.items) }
+    ensures engine { IfErr result IsOfEngine }
 {
     if tasks.len() > MAX_SESSIONS as usize {
         return Err(RunFault::TooManyTasks);

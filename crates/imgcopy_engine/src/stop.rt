@@ -25,6 +25,10 @@ impl<E> From<Refusal> for Stop<E> {
 }
 
 impl<E: fmt::Display> fmt::Display for Stop<E> {
+    ghost use Rattle.imgcopy_engine.specs.StopText.{text_of_stop};
+
+    ghost output = { λ stop. text_of_stop E.output stop };
+
     fn fmt<W: fmt::Write>(&self, f: &mut fmt::Formatter<W>) -> fmt::Result {
         match self {
             Stop::Refused(why) => write!(f, "{why}"),
@@ -48,12 +52,22 @@ pub enum NotDone<E> {
 }
 
 impl<E: fmt::Display> fmt::Display for NotDone<E> {
+    ghost use Rattle.imgcopy_engine.specs.StopText.{text_of};
+
+    ghost output = { λ fault. text_of E.output fault };
+
     fn fmt<W: fmt::Write>(&self, f: &mut fmt::Formatter<W>) -> fmt::Result {
         match self {
             NotDone::NotBegun(why) => write!(f, "not begun: {why}"),
             NotDone::Stopped(why) => write!(f, "taken back: {why}"),
-            NotDone::Unsure(lsn) => write!(f, "{} {}", FaultName::CommitUnsure, lsn.0),
-            NotDone::Left(txn, why) => write!(f, "transaction {} is still open: {why}", txn.0),
+            NotDone::Unsure(lsn) => {
+                let lsn = lsn.0;
+                write!(f, "{} {lsn}", FaultName::CommitUnsure)
+            }
+            NotDone::Left(txn, why) => {
+                let txn = txn.0;
+                write!(f, "transaction {txn} is still open: {why}")
+            }
         }
     }
 }

@@ -12,7 +12,8 @@ use crate::fields::{
 };
 use crate::limits::{HEADER_BYTES, MAX_LOG_BYTES, MAX_OPEN, MAX_RECORDS, RECORD_BYTES};
 
-/// No record's spelling begins another record's, so two different records have different spellings.
+/// What spells a record begins the spelling of no other one. So some bytes spell one record at
+/// most.
 pub fn records_are_spelled_apart()
     ensures { (a b : Record) (x y : List ℕ) → IsRecord a → IsRecord b
         → record_bytes a ++ x ≡ record_bytes b ++ y → a ≡ b }

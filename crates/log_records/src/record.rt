@@ -64,7 +64,8 @@ pub enum Record {
         pages: DirtyPages,
     },
     /// An open transaction that a checkpoint found: the LSN of its last record, and its UndoNxt,
-    /// which is the LSN of its last pending Update, or of its Begin where nothing is pending.
+    /// where a rollback would begin: at the newest Update that is still pending, or else at its
+    /// Begin.
     ChkptTxns {
         lsn: Lsn,
         begin: Lsn,

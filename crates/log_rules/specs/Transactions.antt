@@ -142,8 +142,8 @@ pending rs t = pending_from [] (records_of rs t)
 abbrev pub phase : List Record → ℕ → TxnPhase
 phase rs t = if is_rolling rs t then Rolling else Active
 
--- what a rollback of the transaction would compensate first: the LSN of its last pending Update, or
--- of its Begin where nothing is pending
+-- where a rollback of the transaction would begin: at its newest Update that is still pending, or
+-- else at its Begin
 abbrev pub undo_next : List Record → ℕ → ℕ
 undo_next rs t = option_map_or (λ p. p.lsn) (last_of (pending rs t)) (first_lsn rs t)
 

@@ -27,7 +27,8 @@ pub trait LogDevice {
     /// How many of its first bytes last: they outlast a loss of power, and a call that fails.
     ghost lasting: { Self → ℕ };
 
-    /// How often the device has failed: a number that contracts alone see. It has no last value.
+    /// How often the device has failed. Contracts count this, and no code can read it; it may
+    /// always grow by one more.
     ghost failures: { Self → ℕ };
 
     /// Where its stores may fail: none that ends before this offset does, and no sync of fewer

@@ -13,7 +13,7 @@ use Rattle.loser_undo.specs.declared.tail.OpenTxn.{OpenTxn}
 
 -- ---- what is asked for
 
--- the records of a linked log from the BeginChkpt of a complete checkpoint on
+-- what stands in a linked log from where a complete checkpoint begins
 pub record IsTailOf (log : Log) (tail : List Record) : Type 0 where
   pub valid : IsLog log
   pub linked : IsLinked log.records

@@ -70,13 +70,13 @@ with_end rs txn = rs ++ end_of rs txn ∷ []
 abbrev pub with_comp : List Record → LostChange → List Record
 with_comp rs lost = rs ++ comp_of rs lost ∷ []
 
--- the log with a change taken back: its compensation, followed at once by its transaction's End
--- where nothing of it is left
+-- what a log is once one change was compensated; if its transaction owed nothing else, the End of
+-- that transaction comes right behind
 unfoldable pub taken_back : List Record → LostChange → List Record
 taken_back rs lost = let after = with_comp rs lost in
     if is_undone after lost.txn then with_end after lost.txn else after
 
--- the log after undo: an End for each open transaction with nothing pending, and then each lost
--- change taken back. No Abort is appended
+-- what undo makes of a log: it ends the losers that have nothing to take back, and then it takes
+-- back one lost change after another. It writes no Abort
 unfoldable pub after_undo : List Record → List Record
 after_undo rs = fold taken_back (fold with_end rs (spent rs)) (lost_changes rs)

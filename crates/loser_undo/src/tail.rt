@@ -20,11 +20,12 @@ pub struct OpenTxn {
     pub last: Lsn,
 }
 
-/// The open transactions of a log with the LSNs of their last records, in order of their numbers,
-/// by the records from the BeginChkpt of a complete checkpoint on (the analysis of ARIES, section
-/// 6.1). A transaction that began before them is known by its entry in the checkpoint, which says
-/// what held where the entry stands. So a transaction that ends before its entry would come has
-/// none. An `Err` comes where memory for the answer is refused.
+/// Finds who is open at the end of a log, and the LSN of each one's last record, sorted by the
+/// transaction's number. It reads nothing that stands before the BeginChkpt of a complete
+/// checkpoint (the analysis of ARIES, section 6.1). A transaction that began before them is known
+/// by its entry in the checkpoint, which says what held where the entry stands. So a transaction
+/// that ends before its entry would come has none. An `Err` comes where memory for the answer is
+/// refused.
 pub fn open_by_tail(alloc: Global, tail: &[Record]) -> Result<Vec<OpenTxn>, AllocError>
     ensures { IfOk result (λ found. (log : Log) → IsTailOf log tail.now
         → found.items ≡ open_txns log.records) }
@@ -121,7 +122,7 @@ fn take_out(known: &mut Vec<OpenTxn>, txn: TxnNo)
     known.retain(|one| one.txn.0 != txn.0);
 }
 
-/// The records of a linked log from the BeginChkpt of a complete checkpoint on are such a tail.
+/// What stands in a linked log from where a complete checkpoint begins is such a tail.
 pub fn complete_checkpoints_begin_tails()
     ensures place { (log : Log) (begin end : ℕ) → IsLog log
         → IsCompleteCheckpoint log.records begin end

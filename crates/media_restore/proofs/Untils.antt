@@ -52,6 +52,11 @@ none_ends (Some bytes) lsn log spells other = λ ended it.
     let count = counted ended lsn it.of_log.valid it.last in
     other (omega (arith, length-log log _ spells, length-log ended _ it.of_log.spelled, count.1))
 
+-- and that log ends with another record
+pub ends_elsewhere : (log : Log) (lsn : ℕ) → IsLog log → length log.records ≢ lsn / 64 → ¬ EndsWith lsn log
+ends_elsewhere log lsn valid other last =
+    let count = counted log lsn valid last in other (omega (arith, count.0, count.1))
+
 -- what a reader gives that is cut there
 pub cut_there : {T : Type 0} (remaining : T → Option (List ℕ)) (front : Take T) (lsn : ℕ) (inner : T)
     → take_limit front ≡ lsn + 64 → take_inner front ≡ inner

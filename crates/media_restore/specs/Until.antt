@@ -1,6 +1,6 @@
 -- A log up to one of its records: what its bytes are, what stands for its master record, and what is
 -- made of it.
-use Rattle.std.specs.Prelude.{ℕ, ◌≡◌, ◌+◌, List, [], take, Option, Some, IfSome, IsSomeAnd}
+use Rattle.std.specs.Prelude.{ℕ, ◌≡◌, ◌+◌, ◌⊎◌, List, [], take, Option, Some, IfSome, IsSomeAnd}
 use Rattle.std.specs.Io.KnownBytes.{Keeps}
 use Rattle.std.specs.Option.{option_map}
 use Rattle.page_core.specs.FaultName.{fault_line, fault_line_with}
@@ -63,6 +63,13 @@ RefusesUntil input lsn NoCheckpoint = ⊥
 RefusesUntil input lsn (OfLog why) =
     IfSome (bytes_until lsn input) (λ bytes. log.Refuses bytes why)
 RefusesUntil input lsn (WriteFault done) = ⊥
+
+-- where no record begins there, none may stand there, or the bytes up to its end spell a log that
+-- ends with another one
+abbrev pub EndsElsewhere : Option (List ℕ) → ℕ → UntilFault → Type 0
+EndsElsewhere input lsn (NoRecord at) = (¬ log.IsPlace lsn)
+    ⊎ ((found : Log) × IsOfLog (bytes_until lsn input) found × ¬ EndsWith lsn found)
+EndsElsewhere input lsn other = Unit {0}
 
 -- or no checkpoint is complete in it
 abbrev pub RefusesCheckpoint : Option (List ℕ) → ℕ → UntilFault → Type 0

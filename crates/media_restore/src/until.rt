@@ -4,7 +4,8 @@ ghost use Rattle.std.specs.Prelude.{◌≡◌, ◌↔◌, IfErr, IfOk, IsTrue, O
 ghost use Rattle.log_records.specs.Log.{Log};
 ghost use Rattle.log_store.specs.Analysis.{IsAnalysisOf};
 ghost use Rattle.log_store.specs.Fault.{IsPlace};
-ghost use Rattle.media_restore.specs.Until.{IsLogUntil, LeavesUntil, RefusesCheckpoint};
+ghost use Rattle.media_restore.specs.Until.{EndsElsewhere, IsLogUntil, LeavesUntil};
+ghost use Rattle.media_restore.specs.Until.{RefusesCheckpoint};
 ghost use Rattle.media_restore.specs.Until.{RefusesUntil, WritesUntil, last_checkpoint};
 
 use crate::files::BUFFER_PAGES;
@@ -31,6 +32,7 @@ pub fn checkpoint_until<R: Read>(
         × (IsLogUntil (R.remaining reader.old) until log × (last_checkpoint log ≡ Some master))) }
     ensures place { OnOk result (IsPlace until) }
     ensures err { IfErr result (RefusesCheckpoint (R.remaining reader.old) until) }
+    ensures no_record { IfErr result (EndsElsewhere (R.remaining reader.old) until) }
 {
     let found = log_until(alloc, reader, until)?;
     match found.complete.last() {
@@ -58,6 +60,7 @@ pub fn redo_until<R: Read, W: Write>(
         (W.contents writer.old) (W.contents writer.new)) }
     ensures err { IfErr result (LeavesUntil (R.remaining reader.old) until
         (W.contents writer.old) (W.contents writer.new)) }
+    ensures no_record { IfErr result (EndsElsewhere (R.remaining reader.old) until) }
 {
     let found = log_until(alloc, reader, until)?;
     let Ok(mut buffer) = zeros(alloc, BUFFER_PAGES * PAGE_BYTES) else {
@@ -75,6 +78,7 @@ fn log_until<R: Read>(alloc: Global, reader: &mut R, until: Lsn) -> Result<Analy
         × (IsLogUntil (R.remaining reader.old) until log × IsAnalysisOf log it)) }
     ensures place { OnOk result (IsPlace until) }
     ensures err { IfErr result (RefusesUntil (R.remaining reader.old) until) }
+    ensures no_record { IfErr result (EndsElsewhere (R.remaining reader.old) until) }
 {
     if !is_place(until) {
         return Err(UntilFault::NoRecord(until));

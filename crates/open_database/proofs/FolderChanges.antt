@@ -2,18 +2,26 @@
 use Rattle.std.proofs.Common.{◌≡◌, ◌∙◌, ℕ, List, ap, inl, inr, refl, subst, sym}
 use Rattle.std.specs.Prelude.{codes, Err, IfSome, None, Ok, OnOk, Option, Result, Some}
 use Rattle.std.specs.Io.{StartsWith}
+use Rattle.std.specs.List.{All, Contains}
 use Rattle.saved_files.specs.Folder.{Changes, Entries, IsSame, KeepsBeside, KeepsOthers, Puts}
 use Rattle.saved_files.specs.Folder.{HasNewOrOld, PutsOrKeeps, absent}
 use Rattle.saved_files.specs.Saved.{name_of}
 use Rattle.saved_files.specs.declared.saved_name.SavedName.TheVariants as saved
 use Rattle.open_database.specs.Backups.{AddsCopies, AddsFiles}
-use Rattle.open_database.specs.Backups.{IsUnfinished, KeepsBut}
-use Rattle.open_database.specs.Backups.{KeepsFinished}
+use Rattle.open_database.specs.Backups.{KeepsBut}
+use Rattle.open_database.specs.MovedAside.{IsCleared, IsFreed, PutsAside}
+use Rattle.open_database.specs.Standing.{IsUnfinished, KeepsAllBut, KeepsFinished}
 use Rattle.open_database.proofs.SecondNames.{beside_unfinished, by_test, copy_starts}
 use Rattle.open_database.proofs.SecondNames.{log_manifest, manifest_finished}
 use Rattle.open_database.proofs.SecondNames.{manifest_no_copy, master_manifest}
 
 -- ---- changes of a folder
+
+-- what was freed was cleared
+pub cleared_by : (name : List ℕ) (old new : Option Entries) (is_kept is_stored : Type 0) → (is_kept → new ≡ old)
+    → IsFreed name old new is_kept is_stored → IsCleared name old new
+cleared_by name old new is_kept is_stored same (inl free) = inl (free.0, same free.1)
+cleared_by name old new is_kept is_stored same (inr moved) = inr moved.0
 
 -- a change that implies another one
 pub so : {P Q : Entries → Entries → Type 0} (a b : Option Entries) → ((old new : Entries) → P old new → Q old new)
@@ -22,6 +30,14 @@ so None None imply p = tt
 so None (Some new) imply p = absurd p
 so (Some old) None imply p = absurd p
 so (Some old) (Some new) imply p = imply old new p
+
+-- a file is put where what was wrong there was cleared
+pub puts_aside : {T E : Type 0} (r : Result T E) (is_wrong : Type 0) (name : List ℕ) (fits : List ℕ → Type 0)
+    (old mid new : Option Entries) → (is_wrong → IsCleared name old mid) → (¬ is_wrong → mid ≡ old)
+    → OnOk r (Changes (Puts name fits) mid new) → OnOk r (PutsAside is_wrong name fits old new)
+puts_aside (Ok x) is_wrong name fits old mid new cleared kept put =
+    record { mid = mid; cleared = cleared; kept = kept; put = put }
+puts_aside (Err why) is_wrong name fits old mid new cleared kept put = tt
 
 -- two changes, one after the other
 pub then : {P Q R : Entries → Entries → Type 0} (a b c : Option Entries)
@@ -94,6 +110,22 @@ pub removed : (name : List ℕ) (a b : Option Entries) → IsUnfinished name →
     → Changes KeepsFinished a b
 removed name a b unfinished = so a b (λ old new kept n whole.
     kept n (λ same. whole (subst IsUnfinished (sym same) unfinished)))
+
+-- a file of one of these names is removed
+pub removed_more : (names : List (List ℕ)) (name : List ℕ) (a b c : Option Entries) → Contains names name
+    → Changes (KeepsAllBut names) a b → Changes (KeepsOthers name) b c → Changes (KeepsAllBut names) a c
+removed_more names name a b c has = then a b c (λ old mid new p q n none.
+    q n (λ same. none (subst (Contains names) (sym same) has)) ∙ p n none)
+
+pub none_removed : (names : List (List ℕ)) (a : Option Entries) → Changes (KeepsAllBut names) a a
+none_removed names None = tt
+none_removed names (Some old) = λ n none. refl
+
+-- files that are not whole are removed
+pub all_removed : (names : List (List ℕ)) (a b : Option Entries) → IfSome a (λ there. All IsUnfinished names)
+    → Changes (KeepsAllBut names) a b → Changes KeepsFinished a b
+all_removed names a b = given a b (λ old new unfinished kept n whole.
+    kept n (λ has. whole (subst IsUnfinished has.2 (unfinished has.0 n has.1))))
 
 pub finished_more : (a b c : Option Entries) → Changes KeepsFinished a b → Changes KeepsFinished b c
     → Changes KeepsFinished a c

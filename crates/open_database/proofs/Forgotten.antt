@@ -1,5 +1,5 @@
 -- A folder in which the name of a note may be gone.
-use Rattle.std.proofs.Common.{◌≡◌, ◌≢◌, ◌∙◌, ℕ, Bool, List, false, refl, sym, true}
+use Rattle.std.proofs.Common.{◌≢◌, ◌∙◌, ℕ, Bool, List, false, refl, sym, true}
 use Rattle.std.specs.Prelude.{codes, None, Option, Some}
 use Rattle.saved_files.specs.Folder.{Changes, Entries, IsRemoved, IsSame, KeepsOthers, Puts}
 use Rattle.open_database.specs.Closed.{IsWithoutNote, KeepsNote}

@@ -1,6 +1,6 @@
 -- What is found in a folder is what stands there.
-use Rattle.std.proofs.Common.{◌≡◌, ◌≢◌, ◌↔◌, ◌<◌, ◌≤◌, ◌∙◌, ◌++◌, ◌∷◌, ℕ, Bool, List, [], ap, arith, false, IsTrue, length, length-take, map, min, refl, subst, sym, take, true, true≢false}
-use Rattle.std.specs.Prelude.{codes, IfSome, None, Option, Some}
+use Rattle.std.proofs.Common.{◌≡◌, ◌≢◌, ◌↔◌, ◌<◌, ◌≤◌, ◌∙◌, ◌++◌, ◌∷◌, ℕ, Bool, List, [], ap, arith, false, IsTrue, length, length-take, map, refl, subst, sym, take, true, true≢false}
+use Rattle.std.specs.Prelude.{codes, IfSome, None, Option, Some, string_bytes}
 use Rattle.std.specs.List.{All, Contains}
 use Rattle.std.proofs.lemmas.List.{take_all}
 use Rattle.std.proofs.lemmas.List.Elements.{All-nil, All-push}
@@ -8,6 +8,7 @@ use Rattle.copy_archives.specs.Archive.{SpellsCopy}
 use Rattle.copy_archives.specs.ArchiveFault.{IsOutside}
 use Rattle.copy_archives.specs.declared.archive_fault.ArchiveFault.{ArchiveFault}
 use Rattle.image_copies.specs.Copy.{CopyView}
+use Rattle.log_records.specs.declared.limits.TheConstants.{HEADER_BYTES}
 use Rattle.log_store.specs.Master.{SpellsMaster}
 use Rattle.log_store.specs.declared.master.Master.{Master}
 use Rattle.log_store.proofs.Public.{length-master_bytes}
@@ -18,7 +19,10 @@ use Rattle.saved_files.specs.Saved.{name_of}
 use Rattle.saved_files.specs.declared.saved_name.SavedName.TheVariants as saved
 use Rattle.open_database.specs.Closed.{SpellsNote}
 use Rattle.open_database.specs.DatabaseFolder.{AreOf, BeginsIn, ListsAll, MayBeNoFile, Tells}
-use Rattle.open_database.specs.Found.{AreFoundAt, AreFoundIn, IsCopyAt, IsCopyIn, IsCopyReadOf, IsFoundAt, IsFoundIn, IsHadIn, IsInventoryOf, IsReadOf, IsRefusedFor, SpellsManifest, TellsNames}
+use Rattle.open_database.specs.Found.{AreFoundIn, IsCopyAt, IsCopyIn, IsCopyReadOf, IsFoundAt, IsFoundIn, IsHadIn, IsInventoryOf, IsReadOf, IsRefusedFor, SpellsManifest, TellsNames}
+use Rattle.open_database.specs.Evidence.{log_line}
+use Rattle.open_database.specs.Opened.{HasNoWidow, TellsOfNoLog}
+use Rattle.open_database.specs.Standing.{IsUnfinished}
 use Rattle.open_database.specs.declared.closed_note.ClosedNote.{ClosedNote}
 use Rattle.open_database.specs.declared.copy_trouble.CopyTrouble.{CopyTrouble}
 use Rattle.open_database.specs.declared.database_folder.Standing.TheVariants.{File, NoFile}
@@ -46,6 +50,7 @@ of_listed (Some there) names it lists told = record {
     λ has. let is = (told.copies id).0 has in (is.0, (lists (name_of (saved.Copy id))).1 is.1),
     λ had. (told.copies id).1 (had.0, (lists (name_of (saved.Copy id))).0 had.1),
   );
+  unfinished = told.unfinished;
 }
 
 IsAbsent : FolderEntry → Type 0
@@ -77,6 +82,47 @@ pub tells_master : (entries : Option Entries) (it : Inventory) → IsInventoryOf
     → Tells entries (codes "master") it.has_master
 tells_master None it is = tt
 tells_master (Some there) it is = tells there (codes "master") it.has_master is.master
+
+-- a name of which it is told that nothing has it
+told_none : (there : Entries) (name : List ℕ) (told : Bool) → IsTrue told ↔ IsHadIn there name → told ≡ false
+    → there name ≡ absent
+told_none there name told is none = none_stands (there name) (λ had. true≢false (sym (is.1 had) ∙ none))
+
+none_told : (there : Entries) (name : List ℕ) (told : Bool) → IsTrue told ↔ IsHadIn there name → there name ≡ absent
+    → told ≡ false
+none_told there name true is none = absurd (is.0 refl none)
+none_told there name false is none = refl
+
+none_in : (ids : List ℕ) (id : ℕ) → ids ≡ [] → ¬ Contains ids id
+none_in ids id none has = absurd (omega (arith, has.1, ap (length {A = ℕ}) none))
+
+-- where it is told of none of these files, none stands there
+pub no_widow : (entries : Option Entries) (it : Inventory) → IsInventoryOf entries it → it.copies.items ≡ []
+    → it.has_master ≡ false → it.has_closed ≡ false → (it.has_log ≡ false → it.has_volume ≡ false)
+    → IfSome entries HasNoWidow
+no_widow None it is copies master closed volume = tt
+no_widow (Some there) it is copies master closed volume = record {
+  copies = λ id fits. none_stands (there (name_of (saved.Copy id)))
+      (λ had. none_in it.copies.items id copies ((is.copies id).1 (fits, had)));
+  master = told_none there (codes "master") it.has_master is.master master;
+  closed = told_none there (codes "closed") it.has_closed is.closed closed;
+  volume = λ none. told_none there (codes "volume") it.has_volume is.volume
+      (volume (none_told there (codes "log") it.has_log is.log none));
+}
+
+-- and a manifest that names no more than a header
+pub no_log_told : (entries : Option Entries) (manifest : Option Listed) → IfSome entries HasNoWidow
+    → IsFoundIn SpellsManifest entries (codes "manifest") manifest
+    → IfSome (log_line manifest) (λ it. it.bytes ≤ HEADER_BYTES) → IfSome entries TellsOfNoLog
+no_log_told None manifest files listed header = tt
+no_log_told (Some there) manifest files listed header =
+    record { files = files; manifest = manifest; listed = listed; header = header }
+
+-- what it has to go is not whole
+pub are_unfinished : (entries : Option Entries) (it : Inventory) → IsInventoryOf entries it
+    → IfSome entries (λ there. All IsUnfinished (map string_bytes it.unfinished.items))
+are_unfinished None it is = tt
+are_unfinished (Some there) it is = is.unfinished
 
 -- ---- the note, the manifest and the master record
 

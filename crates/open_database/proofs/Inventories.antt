@@ -1,11 +1,13 @@
 -- An inventory that takes note of one name more.
-use Rattle.std.proofs.Common.{◌≡◌, ◌≢◌, ◌⊎◌, ◌↔◌, ◌<◌, ◌^◌, ◌++◌, [], ◌∷◌, ℕ, Bool, List, ap, arith, drop, false, get_or, inl, inr, IsPermutation, IsTrue, refl, subst, sym, true, true≢false, ◌∙◌}
-use Rattle.std.specs.Prelude.{codes, decimal, None}
-use Rattle.std.specs.List.{Contains}
+use Rattle.std.proofs.Common.{◌≡◌, ◌≢◌, ◌↔◌, ◌++◌, [], ◌∷◌, ℕ, Bool, List, ap, arith, drop, false, get_or, inl, inr, IsPermutation, IsTrue, length, map, refl, subst, sym, true, true≢false, ◌∙◌}
+use Rattle.std.specs.Prelude.{codes, decimal, None, String, string_bytes}
+use Rattle.std.specs.List.{All, Contains}
 use Rattle.std.proofs.lemmas.Fmt.{decimal_injective}
 use Rattle.std.proofs.lemmas.List.Sorted.{Contains-permutation, IsPermutation-sym}
-use Rattle.std.proofs.lemmas.List.Elements.{Contains-append_left, Contains-push, Contains-push_cases}
+use Rattle.std.proofs.lemmas.List.{length-map, map-append}
+use Rattle.std.proofs.lemmas.List.Elements.{All-push, Contains-append_left, Contains-push, Contains-push_cases}
 use Rattle.open_database.specs.Found.{IsCopyId, IsReadOf, NamesCopy, TellsNames}
+use Rattle.open_database.specs.Standing.{IsUnfinished}
 use Rattle.open_database.specs.declared.inventory.Inventory.{Inventory}
 
 -- nothing is among no names
@@ -16,8 +18,8 @@ no_flag : (n : List ℕ) → IsTrue false ↔ Contains [] n
 no_flag n = (λ is. absurd (true≢false (sym is)), λ has. absurd (none_there n has))
 
 pub none_noted : (it : Inventory) → it.copies.items ≡ [] → it.has_log ≡ false → it.has_volume ≡ false → it.has_master ≡ false
-    → it.has_closed ≡ false → it.has_manifest ≡ false → TellsNames (Contains []) it
-none_noted it copies log volume master closed manifest = record {
+    → it.has_closed ≡ false → it.has_manifest ≡ false → it.unfinished.items ≡ [] → TellsNames (Contains []) it
+none_noted it copies log volume master closed manifest unfinished = record {
   log = subst (λ (b : Bool). IsTrue b ↔ Contains [] (codes "log")) (sym log) (no_flag (codes "log"));
   volume = subst (λ (b : Bool). IsTrue b ↔ Contains [] (codes "volume")) (sym volume) (no_flag (codes "volume"));
   master = subst (λ (b : Bool). IsTrue b ↔ Contains [] (codes "master")) (sym master) (no_flag (codes "master"));
@@ -27,6 +29,7 @@ none_noted it copies log volume master closed manifest = record {
     λ has. absurd (none_there id (subst (λ (ids : List ℕ). Contains ids id) copies has)),
     λ had. absurd (none_there (codes "copy-" ++ decimal id) had.1),
   );
+  unfinished = λ k d lt. absurd (omega (arith, lt, length-map it.unfinished.items string_bytes, ap length unfinished));
 }
 
 -- ---- one name more
@@ -105,6 +108,14 @@ pub all_with : (ids now : List ℕ) (names : List (List ℕ)) (name : List ℕ) 
     → now ≡ ids ++ new ∷ [] → ((id : ℕ) → AreIdsOf ids names id) → (id : ℕ) → AreIdsOf now (names ++ name ∷ []) id
 all_with ids now names name new is pushed was = λ id.
     subst (λ (all : List ℕ). AreIdsOf all (names ++ name ∷ []) id) (sym pushed) (one_copy ids names name new id is (was id))
+
+-- a name of an unfinished file is kept, to go
+pub unfinished_with : {A : Type 0} (old now : List (String A)) (name : String A) → now ≡ old ++ name ∷ []
+    → All IsUnfinished (map string_bytes old) → IsUnfinished (string_bytes name) → All IsUnfinished (map string_bytes now)
+unfinished_with {A} old now name pushed all is =
+    subst (λ (names : List (String A)). All IsUnfinished (map string_bytes names)) (sym pushed)
+    (subst (All IsUnfinished) (sym (map-append string_bytes old (name ∷ [])))
+    (All-push IsUnfinished (map string_bytes old) (string_bytes name) all is))
 
 -- ---- all names
 

@@ -1,8 +1,9 @@
 -- The log that stands in a folder.
 use Rattle.std.proofs.Common.{◌≡◌, ◌∙◌, ℕ, Bool, List, [], ap, arith, inl, inr, length, slice_index_or, subst, sym, take}
-use Rattle.std.specs.Prelude.{codes, Err, IfOk, None, Ok, Option, Result, Some}
+use Rattle.std.specs.Prelude.{codes, Err, IfOk, IfSome, None, Ok, Option, Result, Some}
 use Rattle.std.proofs.lemmas.List.{take_all}
 use Rattle.engine_rules.specs.EngineState.{EngineState}
+use Rattle.fuzzy_ckpt.specs.declared.point.Point.{Point}
 use Rattle.log_store.specs.Master.{SpellsMaster}
 use Rattle.log_store.specs.declared.master.Master.{Master}
 use Rattle.manifest.specs.Entries.{Listed}
@@ -13,9 +14,12 @@ use Rattle.open_database.specs.Closed.{SpellsNote}
 use Rattle.open_database.specs.Found.{AreFoundIn, IsCopyAt, IsFoundAt, SpellsManifest}
 use Rattle.open_database.specs.declared.closed_note.ClosedNote.{ClosedNote}
 use Rattle.open_database.specs.declared.found_copies.CopyFile.{CopyFile}
-use Rattle.open_database.specs.DatabaseFolder.{AreOf, AreFirstOf, HasLength, HasLogBytes, HasLogOf, IsWithoutLog, IsLogIn}
-use Rattle.open_database.specs.Opened.{Begins}
+use Rattle.open_database.specs.DatabaseFolder.{AreOf, AreFirstOf, HasLength, HasLogBytes, HasLogOf, HasNoOtherVolume, IsVolume, IsWithoutLog, IsLogIn}
+use Rattle.open_database.specs.Copies.{ids_unread}
+use Rattle.open_database.specs.Master.{IsUnnamed, TellsWrong}
+use Rattle.open_database.specs.Opened.{Begins, BeginsAnew, GoesOnFromFile, HandsOn, HasNoWidow, TellsOfNoLog}
 use Rattle.open_database.specs.declared.first_line.FirstLine.{FirstLine}
+use Rattle.open_database.specs.declared.first_line.FirstLine.TheVariants.{New, Restarted}
 use Rattle.open_database.specs.declared.log_file.LogFile.{LogFile}
 
 -- the value, where there is one
@@ -80,30 +84,68 @@ found_same (Some old) (Some mid) closing manifest master files same found = reco
   all = λ id fits had. found.all id fits (λ none. had (sym (same (name_of (saved.Copy id))) ∙ none));
 }
 
+volume_same : (old mid : Option Entries) → Changes IsSame old mid → HasNoOtherVolume mid → HasNoOtherVolume old
+volume_same None mid same none = tt
+volume_same (Some old) None same none = absurd same
+volume_same (Some old) (Some mid) same none = subst IsVolume (same (codes "volume")) none
+
+pub goes_on_same : (old mid : Option Entries) (is_salvage : Bool) (count : ℕ) (ids : List ℕ) (pages : Option ℕ)
+    (frames : ℕ) (first : FirstLine) (engine : EngineState) → Changes IsSame old mid
+    → GoesOnFromFile mid is_salvage count ids pages frames first engine
+    → GoesOnFromFile old is_salvage count ids pages frames first engine
+goes_on_same old mid is_salvage count ids pages frames first engine same it = record {
+  bytes = it.bytes;
+  there = log_same old mid it.bytes same it.there;
+  all = it.all;
+  log = it.log;
+  cut = it.cut;
+  front = it.front;
+  counted = it.counted;
+  files = it.files;
+  heard = it.heard;
+  rise = it.rise;
+  note = it.note;
+  manifest = it.manifest;
+  master = it.master;
+  found = found_same old mid it.note it.manifest it.master it.files same it.found;
+  volume = volume_same old mid same it.volume;
+  lacks = it.lacks;
+  goes_on = it.goes_on;
+  framed = it.framed;
+  told = it.told;
+}
+
+no_widow_same : (old mid : Entries) → IsSame old mid → HasNoWidow mid → HasNoWidow old
+no_widow_same old mid same none = record {
+  copies = λ id fits. sym (same (name_of (saved.Copy id))) ∙ none.copies id fits;
+  master = sym (same (codes "master")) ∙ none.master;
+  closed = sym (same (codes "closed")) ∙ none.closed;
+  volume = λ gone. sym (same (codes "volume")) ∙ none.volume (same (codes "log") ∙ gone);
+}
+
+tells_none_same : (old mid : Option Entries) → Changes IsSame old mid → IfSome mid TellsOfNoLog → IfSome old TellsOfNoLog
+tells_none_same None mid same none = tt
+tells_none_same (Some old) None same none = absurd same
+tells_none_same (Some old) (Some mid) same none = record {
+  files = no_widow_same old mid same none.files;
+  manifest = none.manifest;
+  listed = subst (λ (e : FolderEntry). IsFoundAt SpellsManifest e none.manifest) (same (codes "manifest")) none.listed;
+  header = none.header;
+}
+
+anew_same : (old mid : Option Entries) (told : Option ℕ) (frames : ℕ) (first : FirstLine) (engine : EngineState)
+    → Changes IsSame old mid → BeginsAnew mid told frames first engine → BeginsAnew old told frames first engine
+anew_same old mid told frames first engine same begins =
+    (tells_none_same old mid same begins.0, volume_same old mid same begins.1, begins.2)
+
 pub begins_same : (old mid : Option Entries) (is_salvage : Bool) (log : Option ℕ) (ids : List ℕ) (told : Option ℕ)
     (frames : ℕ) (first : FirstLine) (engine : EngineState) → Changes IsSame old mid
     → Begins mid is_salvage log ids told frames first engine → Begins old is_salvage log ids told frames first engine
 begins_same old mid is_salvage None ids told frames first engine same begins =
-    (no_log_same old mid same begins.0, begins.1)
+    (no_log_same old mid same begins.0, anew_same old mid told frames first engine same begins.1)
 begins_same old mid is_salvage (Some len) ids told frames first engine same begins = elim begins [
-  | inl new ↦ inl (log_of_same old mid len same new.0, new.1, new.2)
-  | inr it ↦ inr (record {
-    bytes = it.bytes;
-    there = log_same old mid it.bytes same it.there;
-    all = it.all;
-    log = it.log;
-    cut = it.cut;
-    front = it.front;
-    files = it.files;
-    heard = it.heard;
-    note = it.note;
-    manifest = it.manifest;
-    master = it.master;
-    found = found_same old mid it.note it.manifest it.master it.files same it.found;
-    lacks = it.lacks;
-    goes_on = it.goes_on;
-    told = it.told;
-  })
+  | inl new ↦ inl (log_of_same old mid len same new.0, new.1, anew_same old mid told frames first engine same new.2)
+  | inr it ↦ inr (goes_on_same old mid is_salvage len ids told frames first engine same it)
 ]
 
 -- it was opened behind a claim that left the folder as it was
@@ -114,3 +156,41 @@ pub opened_in : {T E : Type 0} (r : Result T E) (first : T → FirstLine) (state
 opened_in (Ok it) first state old mid is_salvage log ids told frames same begins =
     (log, ids, begins_same old mid is_salvage log ids told frames (first it) (state it) same begins)
 opened_in (Err why) first state old mid is_salvage log ids told frames same begins = tt
+
+-- ---- what a session is handed
+
+IsNewLine : FirstLine → Type 0
+IsNewLine (New pages) = Unit {0}
+IsNewLine (Restarted cut taken_back records) = ⊥
+
+-- where a database goes on, the first line says so
+pub goes_on_handed : (entries : Option Entries) (is_salvage : Bool) (count : ℕ) (ids : List ℕ) (pages : Option ℕ)
+    (frames : ℕ) (first : FirstLine) (engine : EngineState) (unread : List ℕ) (point : Option Point) (is_wrong : Bool)
+    (it : GoesOnFromFile entries is_salvage count ids pages frames first engine) → unread ≡ ids_unread it.files
+    → IsUnnamed it.log it.master point → TellsWrong it.log it.master is_wrong
+    → HandsOn entries is_salvage first engine unread point is_wrong
+unfolding IsNewLine
+goes_on_handed entries is_salvage count ids pages frames (New made) engine unread point is_wrong it are unnamed tells =
+    absurd (subst IsNewLine it.told tt)
+goes_on_handed entries is_salvage count ids pages frames (Restarted cut taken_back records) engine unread point is_wrong it are unnamed tells =
+    (count, ids, pages, frames, it, are, unnamed, tells)
+
+handed_same : (old mid : Option Entries) (is_salvage : Bool) (first : FirstLine) (engine : EngineState)
+    (unread : List ℕ) (point : Option Point) (is_wrong : Bool) → Changes IsSame old mid
+    → HandsOn mid is_salvage first engine unread point is_wrong
+    → HandsOn old is_salvage first engine unread point is_wrong
+unfolding goes_on_same
+handed_same old mid is_salvage (New pages) engine unread point is_wrong same on = on
+handed_same old mid is_salvage (Restarted cut taken_back records) engine unread point is_wrong same on =
+    let first = Restarted cut taken_back records in
+    (on.0, on.1, on.2, on.3, goes_on_same old mid is_salvage on.0 on.1 on.2 on.3 first engine same on.4, on.5, on.6, on.7)
+
+-- so it is behind a claim that left the folder as it was
+pub handed_in : {T E : Type 0} (r : Result T E) (first : T → FirstLine) (state : T → EngineState)
+    (unread : T → List ℕ) (point : T → Option Point) (is_wrong : T → Bool) (old mid : Option Entries) (is_salvage : Bool)
+    → Changes IsSame old mid
+    → IfOk r (λ it. HandsOn mid is_salvage (first it) (state it) (unread it) (point it) (is_wrong it))
+    → IfOk r (λ it. HandsOn old is_salvage (first it) (state it) (unread it) (point it) (is_wrong it))
+handed_in (Ok it) first state unread point is_wrong old mid is_salvage same on =
+    handed_same old mid is_salvage (first it) (state it) (unread it) (point it) (is_wrong it) same on
+handed_in (Err why) first state unread point is_wrong old mid is_salvage same on = tt

@@ -1,6 +1,6 @@
 -- Numbers in decimal digits, with no 0 and no plus in front.
-use Rattle.std.proofs.Common.{◌≡◌, ◌≢◌, ◌⊎◌, ◌<◌, ◌≤◌, ◌+◌, ◌^◌, ◌++◌, [], ◌∷◌, ℕ, List, ap, arith, eq-zero-or-pos, get_or, inl, inr, length, subst, sym, ◌∙◌}
-use Rattle.std.specs.Prelude.{decimal, Err, None, Ok, Option, Result, Some}
+use Rattle.std.proofs.Common.{◌≡◌, ◌≢◌, ◌<◌, ◌≤◌, ◌^◌, ℕ, List, ap, arith, eq-zero-or-pos, get_or, inl, inr, length, subst, sym, ◌∙◌}
+use Rattle.std.specs.Prelude.{decimal, Err, None, Ok, Result}
 use Rattle.std.specs.Result.{OkIff, result_ok}
 use Rattle.std.specs.Str.Parse.{AllDigits, digits_value}
 use Rattle.std.proofs.lemmas.Fmt.{decimal-digits_value, decimal_digit, decimal_injective, decimal_is_IsNumeral, first_decimal}

@@ -1,6 +1,7 @@
 -- A database that is opened again.
 use Rattle.std.proofs.Common.{◌≡◌, ℕ, Bool, List, [], ap, false, length, map, subst, sym, ◌∙◌}
-use Rattle.std.specs.Prelude.{Option}
+use Rattle.std.specs.Prelude.{IfSome, Option}
+use Rattle.std.specs.List.Sorted.{IsNonDecreasing}
 use Rattle.std.proofs.lemmas.List.{length-map}
 use Rattle.page_core.specs.declared.page.Page.{Page}
 use Rattle.page_core.specs.Volume.{AreNumbered}
@@ -21,7 +22,7 @@ use Rattle.engine_restart.specs.Lives.{GoesOnFrom}
 use Rattle.engine_restart.specs.Restart.{IsRestarted, RestartedView, undone_log}
 use Rattle.engine_rules.specs.EngineState.{EngineState}
 use Rattle.open_database.specs.Copies.{TakesUp}
-use Rattle.open_database.specs.DatabaseFolder.{HasLogBytes}
+use Rattle.open_database.specs.DatabaseFolder.{HasLogBytes, HasNoOtherVolume}
 use Rattle.open_database.specs.Evidence.{LacksNothing}
 use Rattle.open_database.specs.FirstLine.{told_of}
 use Rattle.open_database.specs.Found.{AreFoundIn}
@@ -75,15 +76,17 @@ told_is log end open_there count engine first is ends are counted =
 
 -- ---- all of it
 
-pub goes_on_from : (entries : Option Entries) (is_salvage : Bool) (count : ℕ) (ids : List ℕ) (first : FirstLine)
-    (engine : EngineState) (bytes : List ℕ) (log now : Log) (cut : Option Cut) (closing : Option ClosedNote)
+unfoldable pub goes_on_from : (entries : Option Entries) (is_salvage : Bool) (count : ℕ) (ids : List ℕ)
+    (pages : Option ℕ) (frames : ℕ) (first : FirstLine) (engine : EngineState) (bytes : List ℕ) (log now : Log)
+    (cut : Option Cut) (closing : Option ClosedNote)
     (manifest : Option Listed) (master : Option Master) (files left : List CopyFile) → HasLogBytes entries bytes
-    → length bytes ≡ count → IsFrontOf bytes (record { log = log; cut = cut }) → map (λ file. file.id) files ≡ ids
-    → AreFoundIn entries closing manifest master files
+    → length bytes ≡ count → IsFrontOf bytes (record { log = log; cut = cut })
+    → IfSome pages (λ told. told ≡ page_count log) → map (λ file. file.id) files ≡ ids → IsNonDecreasing ids
+    → AreFoundIn entries closing manifest master files → HasNoOtherVolume entries
     → (is_salvage ≡ false → LacksNothing (end_of log) closing manifest master files bytes) → now ≡ log → left ≡ files
-    → GoesOnWith now left engine → first ≡ told_of now engine
-    → GoesOnFromFile entries is_salvage count ids first engine
-goes_on_from entries is_salvage count ids first engine bytes log now cut closing manifest master files left there all front heard found lacks same same_files goes_on told =
+    → GoesOnWith now left engine → engine.frames ≡ frames → first ≡ told_of now engine
+    → GoesOnFromFile entries is_salvage count ids pages frames first engine
+goes_on_from entries is_salvage count ids pages frames first engine bytes log now cut closing manifest master files left there all front counted heard rise found volume lacks same same_files goes_on framed told =
     record {
       bytes = bytes;
       there = there;
@@ -91,14 +94,18 @@ goes_on_from entries is_salvage count ids first engine bytes log now cut closing
       log = log;
       cut = cut;
       front = front;
+      counted = counted;
       files = files;
       heard = heard;
+      rise = rise;
       note = closing;
       manifest = manifest;
       master = master;
       found = found;
+      volume = volume;
       lacks = lacks;
       goes_on = subst (λ (fs : List CopyFile). GoesOnWith log fs engine) same_files
           (subst (λ (l : Log). GoesOnWith l left engine) same goes_on);
+      framed = framed;
       told = subst (λ (l : Log). first ≡ told_of l engine) same told;
     }

@@ -11,11 +11,12 @@ use Rattle.saved_files.specs.Folder.{HasNewOrOld, PutsOrKeeps, absent, stored, u
 use Rattle.saved_files.specs.Saved.{name_of}
 use Rattle.saved_files.specs.declared.saved_name.SavedName.TheVariants as saved
 use Rattle.open_database.specs.Backups.{AddsCopies, AddsFiles, AreBackedUp, FillsCopies, FillsCopy, IsBackedUp, IsBackup}
-use Rattle.open_database.specs.Backups.{IsBeginningOf, IsCopyOf, IsFilled, IsOfSame, IsUnfinished, KeepsBut}
-use Rattle.open_database.specs.Backups.{KeepsFinished, KeepsOtherFiles, KeepsTheRest, NotesCopies, NotesOnly}
-use Rattle.open_database.specs.Backups.{IsOldOrFirst, KeepsOrPuts, PutsManifestLast, UnlessUnsynced}
+use Rattle.open_database.specs.Backups.{IsBeginningOf, IsCopyOf, IsFilled, IsOfSame, KeepsBut}
+use Rattle.open_database.specs.Backups.{KeepsOtherFiles, KeepsTheRest, NotesCopies, NotesOnly}
+use Rattle.open_database.specs.Backups.{IsFirsts, IsOldOrFirst, KeepsOrPuts, PutsManifestLast, UnlessUnsynced}
 use Rattle.open_database.specs.DatabaseFolder.{HasBytes, Reads, ReadsIn}
 use Rattle.open_database.specs.Kept.{Names}
+use Rattle.open_database.specs.Standing.{IsUnfinished, KeepsFinished}
 use Rattle.open_database.proofs.SecondNames.{by_test, copy_apart, copy_finished}
 use Rattle.open_database.proofs.SecondNames.{log_finished, log_manifest, log_master, log_no_copy, manifest_finished}
 use Rattle.open_database.proofs.SecondNames.{manifest_no_copy, master_finished, master_manifest, master_no_copy}
@@ -29,6 +30,7 @@ pub still_named : (old new : List Noted) (name : List ℕ) (fits : List ℕ → 
 still_named old new name fits same it = record {
   file = it.file;
   there = same ∙ it.there;
+  extent = it.extent;
   bytes = it.bytes;
   right = it.right;
   sum = it.sum;
@@ -350,6 +352,30 @@ old_since first n old mid new same it = elim it [
   | inr put ↦ inr put
 ]
 
+-- the master record is put behind the log
+abbrev IsOrdered : Option Entries → Entries → Entries → Type 0
+IsOrdered first old new =
+    (new (name_of saved.Master) ≡ old (name_of saved.Master)) ⊎ IsFirsts first (name_of saved.Log) new
+
+still_firsts : (first : Option Entries) (n : List ℕ) (mid new : Entries) → new n ≡ mid n → IsFirsts first n mid
+    → IsFirsts first n new
+still_firsts first n mid new same put = (put.0, put.1, same ∙ put.2)
+
+order_still : (first : Option Entries) (old mid new : Entries) → IsOrdered first old mid
+    → new (name_of saved.Log) ≡ mid (name_of saved.Log) → new (name_of saved.Master) ≡ mid (name_of saved.Master)
+    → IsOrdered first old new
+order_still first old mid new it log master = elim it [
+  | inl is ↦ inl (master ∙ is)
+  | inr put ↦ inr (still_firsts first (name_of saved.Log) mid new log put)
+]
+
+order_since : (first : Option Entries) (old mid new : Entries) → mid (name_of saved.Master) ≡ old (name_of saved.Master)
+    → IsOrdered first mid new → IsOrdered first old new
+order_since first old mid new same it = elim it [
+  | inl is ↦ inl (is ∙ same)
+  | inr put ↦ inr put
+]
+
 old_or_put : (first : Option Entries) (n bytes : List ℕ) (old new : Entries) → HasBytes first n bytes
     → HasNewOrOld n (λ it. it ≡ bytes) old new → IsOldOrFirst first n old new
 old_or_put first n bytes old new read it = elim it [
@@ -364,35 +390,54 @@ pub log_older : (first : Option Entries) (log : List ℕ) (a b : Option Entries)
 log_older first log a b read = both a b (λ old new either kept. record {
   log = old_or_put first (name_of saved.Log) log old new read either;
   master = inl (kept (name_of saved.Master) (λ same. log_master (sym same)) master_finished);
+  order = inl (kept (name_of saved.Master) (λ same. log_master (sym same)) master_finished);
 })
 
 -- and then copies are
 pub copies_older : (first : Option Entries) (a b c : Option Entries) → Changes (KeepsOrPuts first) a b
     → Changes AddsCopies b c → Changes (KeepsOrPuts first) a c
-copies_older first a b c = then a b c (λ old mid new it adds. record {
-  log = old_still first (name_of saved.Log) old mid new it.log
-      (elim (adds (name_of saved.Log) log_finished) [ inl is ↦ is | inr none ↦ absurd (log_no_copy none.1) ]);
-  master = old_still first (name_of saved.Master) old mid new it.master
-      (elim (adds (name_of saved.Master) master_finished) [ inl is ↦ is | inr none ↦ absurd (master_no_copy none.1) ]);
-})
+copies_older first a b c = then a b c (λ old mid new it adds.
+    let log : new (name_of saved.Log) ≡ mid (name_of saved.Log) =
+    elim (adds (name_of saved.Log) log_finished) [ inl is ↦ is | inr none ↦ absurd (log_no_copy none.1) ] in
+    let master : new (name_of saved.Master) ≡ mid (name_of saved.Master) =
+    elim (adds (name_of saved.Master) master_finished) [ inl is ↦ is | inr none ↦ absurd (master_no_copy none.1) ] in
+    record {
+      log = old_still first (name_of saved.Log) old mid new it.log log;
+      master = old_still first (name_of saved.Master) old mid new it.master master;
+      order = order_still first old mid new it.order log master;
+    })
+
+-- once the log is put, it is the first folder's, also behind the copies
+log_put : (first : Option Entries) (log : List ℕ) (a b c : Option Entries) → HasBytes first (name_of saved.Log) log
+    → Changes (Puts (name_of saved.Log) (λ it. it ≡ log)) a b → Changes AddsCopies b c
+    → Changes (λ old new. IsFirsts first (name_of saved.Log) new) a c
+log_put first log a b c read = then a b c (λ old mid new put adds.
+    let kept : new (name_of saved.Log) ≡ mid (name_of saved.Log) =
+    elim (adds (name_of saved.Log) log_finished) [ inl is ↦ is | inr none ↦ absurd (log_no_copy none.1) ] in
+    (log, read, kept ∙ put.put ∙ ap stored put.right))
 
 -- and then the master record, or it is not
 pub master_older : (first : Option Entries) (log master : List ℕ) (a b c end : Option Entries)
     → HasBytes first (name_of saved.Log) log → HasBytes first (name_of saved.Master) master
+    → Changes (Puts (name_of saved.Log) (λ it. it ≡ log)) a b
     → Changes (HasNewOrOld (name_of saved.Log) (λ it. it ≡ log)) a b → Changes (KeepsBut (name_of saved.Log)) a b
     → Changes AddsCopies b c → Changes (HasNewOrOld (name_of saved.Master) (λ it. it ≡ master)) c end
     → Changes (KeepsBut (name_of saved.Master)) c end → Changes (KeepsOrPuts first) a end
-master_older first log master a b c end read read_master put kept adds put_master kept_master =
+master_older first log master a b c end read read_master whole put kept adds put_master kept_master =
     let First : Entries → Entries → Type 0 = λ old mid. KeepsOrPuts first old mid
     × (mid (name_of saved.Master) ≡ old (name_of saved.Master)) in
+    let Far : Entries → Entries → Type 0 = λ old mid. First old mid × IsFirsts first (name_of saved.Log) mid in
     let Last : Entries → Entries → Type 0 = λ mid new. HasNewOrOld (name_of saved.Master) (λ it. it ≡ master) mid new
     × KeepsBut (name_of saved.Master) mid new in
-    then {P = First} {Q = Last} a c end (λ old mid new far last. record {
-      log = old_still first (name_of saved.Log) old mid new far.0.log
-          (last.1 (name_of saved.Log) log_master log_finished);
-      master = old_since first (name_of saved.Master) old mid new far.1
+    then {P = Far} {Q = Last} a c end (λ old mid new far last.
+    let log_stays = last.1 (name_of saved.Log) log_master log_finished in
+    record {
+      log = old_still first (name_of saved.Log) old mid new far.0.0.log log_stays;
+      master = old_since first (name_of saved.Master) old mid new far.0.1
           (old_or_put first (name_of saved.Master) master mid new read_master last.0);
+      order = inr (still_firsts first (name_of saved.Log) mid new log_stays far.1);
     })
+    (both {R = Far} a c (λ old mid it put. (it, put))
     (both {R = First} a c (λ old mid it same. (it, same))
     (copies_older first a b c (log_older first log a b read put kept) adds)
     (then {R = λ old mid. mid (name_of saved.Master) ≡ old (name_of saved.Master)} a b c (λ old mid new keeps more.
@@ -400,16 +445,20 @@ master_older first log master a b c end read read_master put kept adds put_maste
       | inl is ↦ is ∙ keeps (name_of saved.Master) (λ same. log_master (sym same)) master_finished
       | inr none ↦ absurd (master_no_copy none.1)
     ]) kept adds))
+    (log_put first log a b c read whole adds))
     (both {R = Last} c end (λ mid new p q. (p, q)) put_master kept_master)
 
 -- and then the manifest, or it is not
 pub manifest_older : (first : Option Entries) (a b c : Option Entries) → Changes (KeepsOrPuts first) a b
     → Changes (KeepsBut (codes "manifest")) b c → Changes (KeepsOrPuts first) a c
-manifest_older first a b c = then a b c (λ old mid new it kept. record {
-  log = old_still first (name_of saved.Log) old mid new it.log (kept (name_of saved.Log) log_manifest log_finished);
-  master = old_still first (name_of saved.Master) old mid new it.master
-      (kept (name_of saved.Master) master_manifest master_finished);
-})
+manifest_older first a b c = then a b c (λ old mid new it kept.
+    let log = kept (name_of saved.Log) log_manifest log_finished in
+    let master = kept (name_of saved.Master) master_manifest master_finished in
+    record {
+      log = old_still first (name_of saved.Log) old mid new it.log log;
+      master = old_still first (name_of saved.Master) old mid new it.master master;
+      order = order_still first old mid new it.order log master;
+    })
 
 -- nothing was changed
 pub rest_same : (first : Option Entries) (ids database : List ℕ) (a b : Option Entries) → Changes IsSame a b
@@ -417,7 +466,11 @@ pub rest_same : (first : Option Entries) (ids database : List ℕ) (a b : Option
 rest_same first ids database a b = so a b (λ old new same. record {
   another = inl same;
   last = inl (same (codes "manifest"));
-  older = record { log = inl (same (name_of saved.Log)); master = inl (same (name_of saved.Master)) };
+  older = record {
+    log = inl (same (name_of saved.Log));
+    master = inl (same (name_of saved.Master));
+    order = inl (same (name_of saved.Master));
+  };
   others = λ n log master manifest whole some. same n;
 })
 
@@ -436,6 +489,7 @@ rest_cleared first log ids database a b c read same known kept =
       older = record {
         log = inl (far.1 (name_of saved.Log) log_finished ∙ is (name_of saved.Log));
         master = inl (far.1 (name_of saved.Master) master_finished ∙ is (name_of saved.Master));
+        order = inl (far.1 (name_of saved.Master) master_finished ∙ is (name_of saved.Master));
       };
       others = λ n log master manifest whole some. far.1 n whole ∙ is n;
     }) same (given b c (λ mid new it far. (it, far)) known kept)
@@ -459,6 +513,7 @@ rest_filled first log ids database a b c d read same known kept last older other
         log = old_since first (name_of saved.Log) old mid new (far.1 (name_of saved.Log) log_finished) after.1.log;
         master = old_since first (name_of saved.Master) old mid new (far.1 (name_of saved.Master) master_finished)
             after.1.master;
+        order = order_since first old mid new (far.1 (name_of saved.Master) master_finished) after.1.order;
       };
       others = λ n log master manifest whole some.
           let before = far.1 n whole in

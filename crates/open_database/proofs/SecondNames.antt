@@ -10,7 +10,7 @@ use Rattle.std.proofs.lemmas.Slice.Eq.{bytes_eq-Decides}
 use Rattle.saved_files.specs.Folder.{IsBeside}
 use Rattle.saved_files.specs.Saved.{name_of}
 use Rattle.saved_files.specs.declared.saved_name.SavedName.TheVariants as saved
-use Rattle.open_database.specs.Backups.{IsUnfinished}
+use Rattle.open_database.specs.Standing.{IsUnfinished}
 
 -- two names are one, or they are not
 pub by_test : (a b : List ℕ) → (a ≡ b) ⊎ (a ≢ b)

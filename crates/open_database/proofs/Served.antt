@@ -1,6 +1,6 @@
 -- Lines that were taken, one after another.
-use Rattle.std.proofs.Common.{ℕ, ◌≡◌, ◌+◌, ◌++◌, List, [], ◌∷◌, arith, length, length-append, refl, subst, sym}
-use Rattle.std.specs.Prelude.{Option, Some, None, Result, Ok, Err, IfErr, IfSome, IsErrAnd, OnOk}
+use Rattle.std.proofs.Common.{ℕ, ◌≡◌, ◌+◌, ◌++◌, ◌∙◌, List, [], ◌∷◌, arith, length, length-append, refl, subst, sym}
+use Rattle.std.specs.Prelude.{Bool, Option, Some, None, Result, Ok, Err, IfErr, IfSome, IsErrAnd, OnErr, OnOk, false, true}
 use Rattle.std.specs.Io.KnownBytes.{Appends, Keeps}
 use Rattle.std.specs.List.{All}
 use Rattle.std.proofs.lemmas.List.Elements.{All-append, All-cons, All-nil}
@@ -20,7 +20,9 @@ use Rattle.open_database.specs.Lines.{IsOver, Line, lines_in}
 use Rattle.open_database.specs.MadeFiles.{StepsAndSays}
 use Rattle.open_database.specs.Said.{said_line}
 use Rattle.open_database.specs.Session.{LeavesBad, LeavesLast, LeavesLine, LeavesNext, LeavesServed, LeavesTaken}
-use Rattle.open_database.specs.Session.{LineSays, LivesByLines, Serves, ServesAll, ServesLines, Takes, WritesBad}
+use Rattle.open_database.specs.Closed.{ClosesWell}
+use Rattle.open_database.specs.Session.{LineSays, LivesByAllLines, LivesByLines, Serves, ServesAll, ServesAllLines}
+use Rattle.open_database.specs.Session.{ServesLines, Takes, WritesBad}
 use Rattle.open_database.specs.Session.{all_served, bad_not_told, bad_told, call_told, next_left, not_begun, not_read}
 use Rattle.open_database.specs.Session.{not_taken, not_told, nothing_told, one_left, silent, word_not_told, word_told}
 use Rattle.open_database.specs.Words.{MakesWord, Told, text_of}
@@ -76,6 +78,11 @@ served_none s written = record {
   told = nothing_told;
 }
 
+-- some text is what is told, where that is said
+pub told_by : (words : Option (List ℕ)) → (text : List ℕ) × IfSome words (λ it. text ≡ it)
+told_by None = ([], tt)
+told_by (Some it) = (it, refl)
+
 module _ (lines : List Line) (line : Line) (old : EngineState) (before : Option (List ℕ)) where
   served_silent : (new : EngineState) (after : Option (List ℕ)) → Serves lines old new before after
       → LineSays line (Ok None) → Serves (lines ++ line ∷ []) old new before after
@@ -113,7 +120,7 @@ module _ (lines : List Line) (line : Line) (old : EngineState) (before : Option 
 
   served_bad : (new : EngineState) (text after : Option (List ℕ)) (why : LineTrouble)
       → Serves lines old new before text → LineSays line (Err why)
-      → WritesBad (1 + length lines) text after → Serves (lines ++ line ∷ []) old new before after
+      → WritesBad (1 + length lines) why text after → Serves (lines ++ line ∷ []) old new before after
   served_bad new text after why so_far says bad = record {
     events = so_far.events;
     replies = so_far.replies;
@@ -164,7 +171,7 @@ module _ (start reached left : Option (List ℕ)) (number : ℕ) (old mid new : 
   more (Err why) says bad =
       subst (λ (s : EngineState). Serves (so_far.lines ++ line ∷ []) old s before after) (sym bad.0)
       (served_bad so_far.lines line old before mid text after why so_far.served says
-      (subst (λ (n : ℕ). WritesBad n text after) so_far.counted bad.1))
+      (subst (λ (n : ℕ). WritesBad n why text after) so_far.counted bad.1))
 
   -- one more line was taken
   pub served_more : (said : Result (Option Order) LineTrouble) → LineSays line said
@@ -184,7 +191,7 @@ module _ (start reached left : Option (List ℕ)) (number : ℕ) (old mid new : 
   last (Ok (Some (order.Call event))) says fault left = not_told event left.said says left.made left.left
   last (Ok (Some (order.Word word))) says fault left = word_not_told word left.told says left.made left.left
   last (Err why) says fault left =
-      bad_not_told why says left.0 (subst (λ (n : ℕ). LeavesBad n text after fault) so_far.counted left.1)
+      bad_not_told why says left.0 (subst (λ (n : ℕ). LeavesBad n why text after fault) so_far.counted left.1)
 
   -- one was left
   pub left_more : (said : Result (Option Order) LineTrouble) → LineSays line said → (fault : ServeFault)
@@ -327,6 +334,25 @@ module _ (first : List ℕ) (input : Option (List ℕ)) where
     served = served;
     closed = closed;
   }
+
+  pub begins_all : (old new : EngineState) (before told after : Option (List ℕ)) (r : Result Unit ServeFault)
+      → Appends before told first → OnOk r (ServesAll input old new told after)
+      → OnOk r (ServesAllLines first input old new before after)
+  begins_all old new before told after (Ok x) tells served = record { told = told; begun = tells; served = served }
+  begins_all old new before told after (Err fault) tells served = tt
+
+  -- what failed is not forgotten, so all lines were taken where nothing failed
+  pub by_all_lines : (old end new : EngineState) (before after : Option (List ℕ)) (r : Result Unit ServeFault)
+      (has_failed : Bool) → OnOk r (ServesAllLines first input old end before after)
+      → OnErr r (has_failed ≡ true) → has_failed ≡ false → ClosesWell end new
+      → LivesByAllLines first input old new before after
+  by_all_lines old end new before after (Ok x) has_failed served failed well closed = record {
+    end = end;
+    served = served;
+    closed = closed;
+  }
+  by_all_lines old end new before after (Err fault) has_failed served failed well closed =
+      let wrong : true ≡ false = sym failed ∙ well in cc
 
   pub by_lines_lives : (old end new : EngineState) (before after : Option (List ℕ))
       → ServesLines first input old end before after → RunsBy IsOfClosing IsAnyReply end new → Lives old new

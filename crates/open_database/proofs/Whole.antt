@@ -1,5 +1,5 @@
 -- A log of which nobody knows that it was longer.
-use Rattle.std.proofs.Common.{◌≡◌, ◌<◌, ◌≤◌, ℕ, List, [], subst, ◌∙◌}
+use Rattle.std.proofs.Common.{◌≡◌, ◌↔◌, ◌<◌, ◌≤◌, ℕ, List, [], subst, sym, ◌∙◌}
 use Rattle.std.specs.Prelude.{Option, IfSome}
 use Rattle.std.specs.List.{All}
 use Rattle.log_front.specs.Remains.{WasForced}
@@ -9,29 +9,43 @@ use Rattle.open_database.specs.Evidence.{Hears, IsBegunIn, IsFileWithin, LacksNo
 use Rattle.open_database.specs.declared.closed_note.ClosedNote.{ClosedNote}
 use Rattle.open_database.specs.declared.evidence.Claim.{Claim}
 use Rattle.open_database.specs.declared.found_copies.CopyFile.{CopyFile}
+use Rattle.open_database.proofs.Heard.{none_heard}
 
--- each of them was heard, of the same end, and none of their claims is missed
-pub heard_all : (end e0 e e1 e2 e3 : ℕ) (c0 c c1 c2 c3 c4 : List Claim) (note : Option ClosedNote)
-    (manifest : Option Listed) (master : Option Master) (copies : List CopyFile) (bytes : List ℕ)
-    → e0 ≡ end → e ≡ e0 → e1 ≡ e → e2 ≡ e1 → e3 ≡ e2
-    → Hears c0 c (IfSome note (λ it. it.end ≤ e0))
-    → Hears c c1 (IfSome (log_line manifest) (IsBegunIn e bytes))
-    → Hears c1 c2 (IfSome master (λ it. it.end < e1))
-    → Hears c2 c3 (All (IsFileWithin e2) copies)
-    → Hears c3 c4 ((at : ℕ) → e3 ≤ at → ¬ WasForced bytes at)
-    → c4 ≡ [] → LacksNothing end note manifest master copies bytes
-heard_all end e0 e e1 e2 e3 c0 c c1 c2 c3 c4 note manifest master copies bytes at0 at_listed at_named at2 at3 notes
-    listed masters files behind none =
+-- each of them was heard, of the same end: no claim is noted just where nothing is missed
+pub heard_all : (end e0 e e1 e2 e3 : ℕ) (by1 by2 by3 by4 by5 : Claim → Type 0) (c0 c c1 c2 c3 c4 : List Claim)
+    (note : Option ClosedNote) (manifest : Option Listed) (master : Option Master) (copies : List CopyFile)
+    (bytes : List ℕ) → e0 ≡ end → e ≡ e0 → e1 ≡ e → e2 ≡ e1 → e3 ≡ e2 → c0 ≡ []
+    → Hears by1 c0 c (IfSome note (λ it. it.end ≤ e0))
+    → Hears by2 c c1 (IfSome (log_line manifest) (IsBegunIn e bytes))
+    → Hears by3 c1 c2 (IfSome master (λ it. it.end < e1))
+    → Hears by4 c2 c3 (All (IsFileWithin e2) copies)
+    → Hears by5 c3 c4 ((at : ℕ) → e3 ≤ at → ¬ WasForced bytes at)
+    → (c4 ≡ []) ↔ LacksNothing end note manifest master copies bytes
+heard_all end e0 e e1 e2 e3 by1 by2 by3 by4 by5 c0 c c1 c2 c3 c4 note manifest master copies bytes at0 at_listed
+    at_named at2 at3 begun notes listed masters files behind =
     let at1 : e1 ≡ e0 = at_named ∙ at_listed in
-    let fourth = behind none in
-    let third = files fourth.0 in
-    let second = masters third.0 in
-    let line = listed second.0 in
-    let first = notes line.0 in
-    record {
-      closed = subst (λ e. IfSome note (λ it. it.end ≤ e)) at0 first.1;
-      listed = subst (λ e. IfSome (log_line manifest) (IsBegunIn e bytes)) (at_listed ∙ at0) line.1;
-      named = subst (λ e. IfSome master (λ it. it.end < e)) (at1 ∙ at0) second.1;
-      copied = subst (λ e. All (IsFileWithin e) copies) (at2 ∙ at1 ∙ at0) third.1;
-      behind = subst (λ e. (at : ℕ) → e ≤ at → ¬ WasForced bytes at) (at3 ∙ at2 ∙ at1 ∙ at0) fourth.1;
-    }
+    let first = none_heard by1 c0 c (IfSome note (λ it. it.end ≤ e0)) notes in
+    let line = none_heard by2 c c1 (IfSome (log_line manifest) (IsBegunIn e bytes)) listed in
+    let second = none_heard by3 c1 c2 (IfSome master (λ it. it.end < e1)) masters in
+    let third = none_heard by4 c2 c3 (All (IsFileWithin e2) copies) files in
+    let fourth = none_heard by5 c3 c4 ((at : ℕ) → e3 ≤ at → ¬ WasForced bytes at) behind in (
+      λ none.
+          let a4 = fourth.0 none in
+          let a3 = third.0 a4.0 in
+          let a2 = second.0 a3.0 in
+          let a1 = line.0 a2.0 in
+          let a0 = first.0 a1.0 in
+          record {
+            closed = subst (λ e. IfSome note (λ it. it.end ≤ e)) at0 a0.1;
+            listed = subst (λ e. IfSome (log_line manifest) (IsBegunIn e bytes)) (at_listed ∙ at0) a1.1;
+            named = subst (λ e. IfSome master (λ it. it.end < e)) (at1 ∙ at0) a2.1;
+            copied = subst (λ e. All (IsFileWithin e) copies) (at2 ∙ at1 ∙ at0) a3.1;
+            behind = subst (λ e. (at : ℕ) → e ≤ at → ¬ WasForced bytes at) (at3 ∙ at2 ∙ at1 ∙ at0) a4.1;
+          },
+      λ whole.
+          let b0 = first.1 (begun, subst (λ e. IfSome note (λ it. it.end ≤ e)) (sym at0) whole.closed) in
+          let b1 = line.1 (b0, subst (λ e. IfSome (log_line manifest) (IsBegunIn e bytes)) (sym (at_listed ∙ at0)) whole.listed) in
+          let b2 = second.1 (b1, subst (λ e. IfSome master (λ it. it.end < e)) (sym (at1 ∙ at0)) whole.named) in
+          let b3 = third.1 (b2, subst (λ e. All (IsFileWithin e) copies) (sym (at2 ∙ at1 ∙ at0)) whole.copied) in
+          fourth.1 (b3, subst (λ e. (at : ℕ) → e ≤ at → ¬ WasForced bytes at) (sym (at3 ∙ at2 ∙ at1 ∙ at0)) whole.behind),
+    )

@@ -1,6 +1,9 @@
 -- Runs of an engine for a copy that is made by one word.
 use Rattle.std.proofs.Common.{ℕ, ◌≡◌, ◌≢◌, ◌+◌, ◌++◌, List, [], ◌∷◌, ap, refl, subst, sym, ◌∙◌}
-use Rattle.std.specs.Prelude.{Option, Result, Ok, Err}
+use Rattle.std.specs.Prelude.{IfSome, None, Option, Result, Some, Ok, Err}
+use Rattle.std.specs.Io.KnownBytes.{Appends}
+use Rattle.std.specs.List.{Contains}
+use Rattle.std.proofs.lemmas.List.{append_assoc}
 use Rattle.std.proofs.lemmas.List.Elements.{All-append, All-cons, All-nil}
 use Rattle.copy_vault.specs.Vault.{state_of, taken_in}
 use Rattle.engine_calls.specs.EventFits.{EventFits}
@@ -9,24 +12,31 @@ use Rattle.engine_calls.specs.declared.event.Answer.TheVariants as answer
 use Rattle.engine_calls.specs.declared.event.Event.{Event}
 use Rattle.engine_calls.specs.declared.event.Event.TheVariants.{DropCopy, Repair, Seal, Take}
 use Rattle.engine_calls.specs.declared.refusal.Refusal.{Refusal}
-use Rattle.engine_calls.specs.declared.refusal.Refusal.TheVariants.{StoreFault}
+use Rattle.engine_calls.specs.declared.refusal.Refusal.TheVariants.{CopyNotComplete, StoreFault}
 use Rattle.engine_rules.specs.EngineState.{EngineState}
+use Rattle.engine_rules.specs.EngineView.{EngineView}
 use Rattle.engine_rules.specs.Step.{Step}
 use Rattle.saved_files.specs.declared.file_fault.FileFault.{FileFault}
 use Rattle.open_database.proofs.Runs.{run_append}
 use Rattle.open_database.proofs.WordRuns.{runs_both, runs_call, runs_nothing, runs_weaker}
-use Rattle.open_database.specs.Calls.{Makes, copy_call}
-use Rattle.open_database.specs.Said.{IsAnswer}
-use Rattle.open_database.specs.WordCopies.{BeginsAndFills, DropsCopy, FillsCopy, RefusesPage, RefusesPages, SealsCopy}
+use Rattle.open_database.specs.Backups.{CopiesBehindPoint, IsCopied, IsToldWell, TellsCopy}
+use Rattle.open_database.specs.Calls.{IsAnyReply, Makes, RunsBy, SaysOf, copy_call}
+use Rattle.open_database.specs.MadeFiles.{CopyStandsOnPlaced, IsCopyGiven, SomeCopyWaits, TellsNoCopy}
+use Rattle.open_database.specs.MadeFiles.{WaitsUnlessCopied}
+use Rattle.open_database.specs.Pending.{Waits, WaitsUnlessPlaced}
+use Rattle.open_database.specs.Said.{IsAnswer, IsAnswerOr, IsReply}
+use Rattle.open_database.specs.WordCopies.{BeginsAndFills, DropsCopy, EndsBySeal, FillsCopy, RefusesPage, RefusesPages, SealsCopy}
 use Rattle.open_database.specs.WordCopies.{TakesPage, TakesPages, at_once, at_page, begun_and_filled, filled, no_page}
 use Rattle.open_database.specs.WordCopies.{not_begun, not_filled, not_in_place, not_repaired, not_sealed, not_taken}
 use Rattle.open_database.specs.WordCopies.{not_taken_then, once_repaired, one_page, refused_first, sealed_well}
-use Rattle.open_database.specs.Words.{MakesWord, Runs, SaysOfWord, copied, copied_behind, not_behind, one_line}
+use Rattle.open_database.specs.Words.{IsOfCheckpoint, MakesWord, Runs, SaysOfWord, copied, copied_behind, not_behind}
+use Rattle.open_database.specs.Words.{one_line, text_of}
+use Rattle.open_database.specs.declared.pending.Stage.{Stage}
 use Rattle.open_database.specs.declared.said.Said.{Said}
 use Rattle.open_database.specs.declared.said.Said.TheVariants.{Reply, Unplaced}
 use Rattle.open_database.specs.declared.word.Word.TheVariants.{Checkpoint, Copy}
 use Rattle.open_database.specs.declared.word_said.WordSaid.{WordSaid}
-use Rattle.open_database.specs.declared.word_said.WordSaid.TheVariants.{Call, Copied}
+use Rattle.open_database.specs.declared.word_said.WordSaid.TheVariants.{Call, Copied, Flushed}
 
 -- ---- one page
 
@@ -141,6 +151,94 @@ seals_not id pages why old mid new reply step dropped =
     (runs_call (λ events replies. SealsCopy id pages (Seal id ∷ events) (Err why ∷ replies) (Call (Reply (Err why))))
     mid new (DropCopy id) reply tt dropped (not_sealed why reply))
 
+-- ---- a copy that waits for its file
+
+pub ends_by_seal : (id : ℕ) (old new : EngineState) (reply : Answer) → Step old (Seal id) (Ok reply) new
+    → Runs (EndsBySeal id) old new
+ends_by_seal id old new reply step =
+    runs_call (EndsBySeal id) old new (Seal id) (Ok reply) tt step
+    (record { before = []; calls = refl; given = []; answer = reply; told = refl })
+
+-- calls before it change nothing of that
+module _ (P : List Event → List (Result Answer Refusal) → Type 0) where
+  ends_behind : (id : ℕ) (old mid new : EngineState) → Runs P old mid → Runs (EndsBySeal id) mid new
+      → Runs (EndsBySeal id) old new
+  ends_behind id old mid new =
+      runs_both P (EndsBySeal id) (EndsBySeal id)
+      (λ events more replies given first ends. record {
+        before = events ++ ends.before;
+        calls = ap (λ (them : List Event). events ++ them) ends.calls ∙ sym (append_assoc events ends.before (Seal id ∷ []));
+        given = replies ++ ends.given;
+        answer = ends.answer;
+        told =
+            ap (λ (them : List (Result Answer Refusal)). replies ++ them) ends.told
+            ∙ sym (append_assoc replies ends.given (Ok ends.answer ∷ []));
+      }) old mid new
+
+  pub waits_behind : (id : ℕ) (said : WordSaid) (stages : List Stage) (old mid new : EngineState) → Runs P old mid
+      → WaitsUnlessCopied id said stages mid new → WaitsUnlessCopied id said stages old new
+  waits_behind id (Copied other pages taken) stages old mid new first it = it
+  waits_behind id (Call (Unplaced fault)) stages old mid new first it = (it.0, ends_behind id old mid new first it.1)
+  waits_behind id (Call (Reply reply)) stages old mid new first it = tt
+  waits_behind id (Flushed count) stages old mid new first it = tt
+
+pub given_too : (id : ℕ) (said : WordSaid) (stages : List Stage) (unread : List ℕ) (old new : EngineState)
+    → WaitsUnlessCopied id said stages old new → ¬ Contains unread id → IsCopyGiven said unread
+given_too id (Copied other pages taken) stages unread old new it none =
+    subst (λ (other : ℕ). ¬ Contains unread other) (sym it.0) none
+given_too id (Call said) stages unread old new it none = tt
+given_too id (Flushed count) stages unread old new it none = tt
+
+-- what is said of a call that begins a copy is said of no file
+pub none_waits : (said : Said) (stages : List Stage) (old new : EngineState) → IsReply said
+    → SomeCopyWaits (Call said) stages old new
+none_waits (Reply reply) stages old new is = (0, tt)
+none_waits (Unplaced fault) stages old new is = absurd is
+
+-- one that is answered as complete does not
+pub none_waits_then : (id : ℕ) (answer : Answer) (said : Said) (reply : Result Answer Refusal) (stages : List Stage)
+    → said ≡ Reply reply → IsAnswerOr answer said → WaitsUnlessPlaced id said stages → ¬ Waits stages id
+none_waits_then id answer said reply stages is says waits =
+    let told : reply ≡ Ok answer = subst (IsAnswerOr answer) is says in
+    subst (λ (it : Result Answer Refusal). WaitsUnlessPlaced id (Reply it) stages) told
+    (subst (λ (it : Said). WaitsUnlessPlaced id it stages) is waits)
+
+-- none is begun on one that waits
+pub not_begun_on : (parent : Option ℕ) (stages : List Stage) (call : Said) (id : ℕ) (P : Type 0)
+    → call ≡ Reply (Ok (answer.Copied id))
+    → IfSome parent (λ it. Waits stages it → call ≡ Reply (Err CopyNotComplete))
+    → IfSome parent (λ it. Waits stages it → P)
+not_begun_on None stages call id P is stands = tt
+not_begun_on (Some parent) stages call id P is stands = λ waits.
+    absurd (subst IsAnswer (stands waits) (subst IsAnswer (sym is) tt))
+
+-- nothing but a checkpoint was made where the parent waits
+pub stands_behind : {S D : Type 0} (parent : Option ℕ) (said : WordSaid) (stages : List Stage) (old : EngineState)
+    (mid new : EngineView S D) → RunsBy IsOfCheckpoint IsAnyReply old mid.state
+    → IfSome parent (λ it. Waits stages it → said ≡ Call (Reply (Err CopyNotComplete)))
+    → IfSome parent (λ it. Waits stages it → new ≡ mid)
+    → CopyStandsOnPlaced parent said stages old new.state
+stands_behind None said stages old mid new runs stands same = tt
+stands_behind (Some parent) said stages old mid new runs stands same = λ waits. (
+  subst TellsNoCopy (sym (stands waits)) tt,
+  subst (λ it. RunsBy IsOfCheckpoint IsAnyReply old it.state) (sym (same waits)) runs,
+)
+
+pub stands_not_begun : (parent : Option ℕ) (said : Said) (stages : List Stage) (old new : EngineState)
+    → RunsBy IsOfCheckpoint IsAnyReply old new → CopyStandsOnPlaced parent (Call said) stages old new
+stands_not_begun None said stages old new runs = tt
+stands_not_begun (Some parent) said stages old new runs = λ waits. (tt, runs)
+
+pub makes_runs : (event : Event) (said : Said) (old new : EngineState) → Makes event old said new
+    → Runs (λ events replies. SaysOf event events replies said) old new
+makes_runs event said old new made = record {
+  events = made.events;
+  replies = made.replies;
+  fit = made.fit;
+  run = made.run;
+  holds = made.says;
+}
+
 -- ---- the whole of it
 
 pub fills : (id pages : ℕ) (said : WordSaid) (old mid new : EngineState) → Runs (TakesPages id pages) old mid
@@ -215,3 +313,43 @@ pub copies_refused : (parent : Option ℕ) (reply : Result Answer Refusal) (why 
 copies_refused parent reply why old new is made =
     copies_not parent (Reply (Err why)) old new (λ none. none)
     (subst (λ (it : Result Answer Refusal). MakesWord Checkpoint old (one_line (Call (Reply it))) new) is made)
+
+-- ---- a checkpoint and a copy of a command
+
+point_told : (said : Said) → IsAnswer said → (point : Answer) × (said ≡ Reply (Ok point))
+point_told (Reply (Ok answer)) is = (answer, refl)
+point_told (Reply (Err why)) is = absurd is
+point_told (Unplaced fault) is = absurd is
+
+pub copies_behind_point : (parent copied : Option ℕ) (call : Said) (said : WordSaid) (old mid new : EngineState)
+    → IsToldWell (Call call) → IfSome copied (λ id. IsCopied id said)
+    → MakesWord Checkpoint old (one_line (Call call)) mid → MakesWord (Copy parent) mid (one_line said) new
+    → IfSome copied (λ id. CopiesBehindPoint parent id old new)
+copies_behind_point parent None call said old mid new well which first made = tt
+copies_behind_point parent (Some id) call said old mid new well which first made =
+    let point = point_told call well in
+    record {
+      between = mid;
+      point = point.0;
+      checkpoint = subst (λ (it : Said). MakesWord Checkpoint old (one_line (Call it)) mid) point.1 first;
+      said = said;
+      copied = which;
+      copy = made;
+    }
+
+-- the lines of both were written
+pub tells_copy : (copied : Option ℕ) (call : Said) (said : WordSaid) (before between after : Option (List ℕ))
+    → IsToldWell (Call call) → IfSome copied (λ id. IsCopied id said)
+    → Appends before between (text_of (one_line (Call call))) → Appends between after (text_of (one_line said))
+    → IfSome copied (λ id. TellsCopy id before after)
+tells_copy None call said before between after well which first last = tt
+tells_copy (Some id) call said before between after well which first last =
+    let point = point_told call well in
+    record {
+      between = between;
+      point = point.0;
+      first = subst (λ (it : Said). Appends before between (text_of (one_line (Call it)))) point.1 first;
+      said = said;
+      copied = which;
+      last = last;
+    }

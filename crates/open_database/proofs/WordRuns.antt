@@ -12,15 +12,18 @@ use Rattle.engine_calls.specs.declared.event.Event.{Event}
 use Rattle.engine_calls.specs.declared.event.Event.TheVariants.{CkptBegin, CkptEnd, CkptGather}
 use Rattle.engine_calls.specs.declared.event.Event.TheVariants.{Force, WriteBegin, WriteEnd}
 use Rattle.engine_calls.specs.declared.refusal.Refusal.{Refusal}
+use Rattle.engine_calls.specs.declared.refusal.Refusal.TheVariants.{CkptOpen}
 use Rattle.engine_rules.specs.EngineState.{EngineState}
 use Rattle.engine_rules.specs.Step.{Step}
 use Rattle.open_database.proofs.Runs.{run_append}
 use Rattle.open_database.specs.Calls.{IsAnyReply, IsNoFault, IsOfClosing, RunsBy}
 use Rattle.open_database.specs.MadeFiles.{EndsCheckpoint}
 use Rattle.open_database.specs.Session.{LeavesLine, LeavesWord, TakesWord}
-use Rattle.open_database.specs.Words.{AreRefused, GatherSteps, Gathers, GathersAll, IsOfCheckpoint, MakesWord, Runs}
-use Rattle.open_database.specs.Words.{SaysOfWord, WritesPages, begins, ended, flushed, lines, no_step, not_flushed}
-use Rattle.open_database.specs.Words.{not_gathered, one_line, one_step, pages_first, telling, writes_ended_by}
+use Rattle.open_database.specs.Words.{AreRefused, GatherSteps, Gathers, GathersAll, IsOfCheckpoint, IsStatus, MakesWord}
+use Rattle.open_database.specs.Words.{Runs}
+use Rattle.open_database.specs.Words.{SaysOfWord, Told, WritesPages, begins, ended, flushed, goes_on, lines, no_step}
+use Rattle.open_database.specs.Words.{not_flushed, not_gathered, one_line, one_step, pages_first, telling, writes_ended_by}
+use Rattle.open_database.specs.declared.help.TheConstants.{HELP}
 use Rattle.open_database.specs.declared.said.Said.{Said}
 use Rattle.open_database.specs.declared.said.Said.TheVariants.{Reply}
 use Rattle.open_database.specs.declared.session.ServeFault.{ServeFault}
@@ -237,14 +240,26 @@ gathers_then old mid new answer step steps = record {
   holds = begins answer steps.events steps.replies steps.holds;
 }
 
-pub begun_refused : (why : Refusal) (old mid new : EngineState) (answer : Answer) → Step old CkptBegin (Ok answer) mid
-    → Runs (AreRefused IsOfCheckpoint why) mid new → Runs (AreRefused IsOfCheckpoint why) old new
-begun_refused why old mid new answer step refused = record {
+-- one that was open was gathered
+pub goes_on_then : (old mid new : EngineState) → Step old CkptBegin (Err CkptOpen) mid → Runs GatherSteps mid new
+    → Runs Gathers old new
+goes_on_then old mid new step steps = record {
+  events = CkptBegin ∷ steps.events;
+  replies = Err CkptOpen ∷ steps.replies;
+  fit = All-cons EventFits CkptBegin steps.events tt steps.fit;
+  run = (mid, step, steps.run);
+  holds = goes_on steps.events steps.replies steps.holds;
+}
+
+pub begun_refused : (why : Refusal) (old mid new : EngineState) (reply : Result Answer Refusal)
+    → Step old CkptBegin reply mid → Runs (AreRefused IsOfCheckpoint why) mid new
+    → Runs (AreRefused IsOfCheckpoint why) old new
+begun_refused why old mid new reply step refused = record {
   events = CkptBegin ∷ refused.events;
-  replies = Ok answer ∷ refused.replies;
+  replies = reply ∷ refused.replies;
   fit = All-cons EventFits CkptBegin refused.events tt refused.fit;
   run = (mid, step, refused.run);
-  holds = refused_behind IsOfCheckpoint why (CkptBegin ∷ []) refused.events (Ok answer ∷ []) refused.replies
+  holds = refused_behind IsOfCheckpoint why (CkptBegin ∷ []) refused.events (reply ∷ []) refused.replies
       (All-cons IsOfCheckpoint CkptBegin [] tt (All-nil IsOfCheckpoint)) refused.holds;
 }
 
@@ -281,6 +296,38 @@ checkpointed old mid new said gathered ends = record {
   holds = ended gathered.events gathered.replies ends.0 said gathered.holds ends.2;
 }
 
+gather_calls : (events : List Event) (replies : List (Result Answer Refusal)) → Gathers events replies
+    → All IsOfCheckpoint events
+gather_calls events replies (begins answer steps told so_far) =
+    All-cons IsOfCheckpoint CkptBegin steps tt (steps_call steps told so_far)
+gather_calls events replies (goes_on steps told so_far) =
+    All-cons IsOfCheckpoint CkptBegin steps tt (steps_call steps told so_far)
+
+all_gather_calls : (events : List Event) (replies : List (Result Answer Refusal)) → GathersAll events replies
+    → All IsOfCheckpoint events
+all_gather_calls events replies (pages_first writes steps written given count wrote gathered) =
+    All-append IsOfCheckpoint writes steps (All-weaker IsOfClosing IsOfCheckpoint closing_is_of writes wrote.calls)
+    (gather_calls steps given gathered)
+
+checkpoint_calls : (events : List Event) (replies : List (Result Answer Refusal)) (told : Told)
+    → SaysOfWord Checkpoint events replies told → All IsOfCheckpoint events
+checkpoint_calls events replies told (ended before given reply said gathered is) =
+    All-append IsOfCheckpoint before (CkptEnd ∷ []) (all_gather_calls before given gathered)
+    (All-cons IsOfCheckpoint CkptEnd [] tt (All-nil IsOfCheckpoint))
+checkpoint_calls events replies told (not_gathered why them given refused) = refused.calls
+checkpoint_calls events replies told (telling word text is) = absurd is
+
+-- a whole checkpoint makes the calls of one alone
+pub checkpoint_by : (old new : EngineState) (told : Told) → MakesWord Checkpoint old told new
+    → RunsBy IsOfCheckpoint IsAnyReply old new
+checkpoint_by old new told runs = record {
+  events = runs.events;
+  replies = runs.replies;
+  calls = checkpoint_calls runs.events runs.replies told runs.holds;
+  answers = all_any runs.replies;
+  run = runs.run;
+}
+
 pub checkpoint_refused : (why : Refusal) (old new : EngineState) → Runs (AreRefused IsOfCheckpoint why) old new
     → MakesWord Checkpoint old (one_line (Call (Reply (Err why)))) new
 checkpoint_refused why old new =
@@ -304,63 +351,63 @@ flush_refused why old new =
 -- ---- words that make no call
 
 pub help_taken : {T : Type 0} (r : Result T ServeFault) (s : EngineState) (text : List ℕ) (entries : Option Entries)
-    (is_stored : Type 0) (before after : Option (List ℕ)) → OnOk r (Appends before after text)
+    (is_stored : Type 0) (before after : Option (List ℕ)) → text ≡ HELP.now → OnOk r (Appends before after text)
     → OnOk r (TakesWord Help s s entries is_stored before after)
-help_taken (Ok x) s text entries is_stored before after written = record {
+help_taken (Ok x) s text entries is_stored before after is written = record {
   told = lines text;
-  made = runs_nothing (λ events replies. SaysOfWord Help events replies (lines text)) s (telling Help text tt);
+  made = runs_nothing (λ events replies. SaysOfWord Help events replies (lines text)) s (telling Help text is);
   in_place = tt;
   stored = tt;
   written = written;
 }
-help_taken (Err fault) s text entries is_stored before after written = tt
+help_taken (Err fault) s text entries is_stored before after is written = tt
 
 pub help_left : {T : Type 0} (r : Result T ServeFault) (s : EngineState) (text : List ℕ) (entries : Option Entries)
-    (is_stored : Type 0) (before after : Option (List ℕ)) → IfErr r (LeavesLine before after text)
+    (is_stored : Type 0) (before after : Option (List ℕ)) → text ≡ HELP.now → IfErr r (LeavesLine before after text)
     → IfErr r (LeavesWord Help s s entries is_stored before after)
-help_left (Ok x) s text entries is_stored before after left = tt
-help_left (Err fault) s text entries is_stored before after left = record {
+help_left (Ok x) s text entries is_stored before after is left = tt
+help_left (Err fault) s text entries is_stored before after is left = record {
   told = lines text;
-  made = runs_nothing (λ events replies. SaysOfWord Help events replies (lines text)) s (telling Help text tt);
+  made = runs_nothing (λ events replies. SaysOfWord Help events replies (lines text)) s (telling Help text is);
   in_place = tt;
   stored = tt;
   left = left;
 }
 
--- some text was written, or left
+-- some text of a status was written, or left
 pub some_text : {T : Type 0} (r : Result T ServeFault) (text : List ℕ) (before after : Option (List ℕ))
-    → OnOk r (Appends before after text) → OnOk r ((it : List ℕ) × Appends before after it)
-some_text (Ok x) text before after written = (text, written)
-some_text (Err fault) text before after written = tt
+    → IsStatus text → OnOk r (Appends before after text) → OnOk r ((it : List ℕ) × IsStatus it × Appends before after it)
+some_text (Ok x) text before after is written = (text, is, written)
+some_text (Err fault) text before after is written = tt
 
 pub some_left : {T : Type 0} (r : Result T ServeFault) (text : List ℕ) (before after : Option (List ℕ))
-    → IfErr r (LeavesLine before after text) → IfErr r (λ fault. (it : List ℕ) × LeavesLine before after it fault)
-some_left (Ok x) text before after left = tt
-some_left (Err fault) text before after left = (text, left)
+    → IsStatus text → IfErr r (LeavesLine before after text)
+    → IfErr r (λ fault. (it : List ℕ) × IsStatus it × LeavesLine before after it fault)
+some_left (Ok x) text before after is left = tt
+some_left (Err fault) text before after is left = (text, is, left)
 
 pub status_taken : {T : Type 0} (r : Result T ServeFault) (s : EngineState) (entries : Option Entries)
-    (is_stored : Type 0) (before after : Option (List ℕ)) → OnOk r ((text : List ℕ) × Appends before after text)
+    (is_stored : Type 0) (before after : Option (List ℕ))
+    → OnOk r ((text : List ℕ) × IsStatus text × Appends before after text)
     → OnOk r (TakesWord Status s s entries is_stored before after)
-status_taken (Ok x) s entries is_stored before after written = record {
-  told = lines written.0;
-  made = runs_nothing (λ events replies. SaysOfWord Status events replies (lines written.0)) s
-      (telling Status written.0 tt);
+status_taken (Ok x) s entries is_stored before after (text, is, written) = record {
+  told = lines text;
+  made = runs_nothing (λ events replies. SaysOfWord Status events replies (lines text)) s (telling Status text is);
   in_place = tt;
   stored = tt;
-  written = written.1;
+  written = written;
 }
 status_taken (Err fault) s entries is_stored before after written = tt
 
 pub status_left : {T : Type 0} (r : Result T ServeFault) (s : EngineState) (entries : Option Entries)
     (is_stored : Type 0) (before after : Option (List ℕ))
-    → IfErr r (λ fault. (text : List ℕ) × LeavesLine before after text fault)
+    → IfErr r (λ fault. (text : List ℕ) × IsStatus text × LeavesLine before after text fault)
     → IfErr r (LeavesWord Status s s entries is_stored before after)
 status_left (Ok x) s entries is_stored before after left = tt
-status_left (Err fault) s entries is_stored before after left = record {
-  told = lines left.0;
-  made = runs_nothing (λ events replies. SaysOfWord Status events replies (lines left.0)) s
-      (telling Status left.0 tt);
+status_left (Err fault) s entries is_stored before after (text, is, left) = record {
+  told = lines text;
+  made = runs_nothing (λ events replies. SaysOfWord Status events replies (lines text)) s (telling Status text is);
   in_place = tt;
   stored = tt;
-  left = left.1;
+  left = left;
 }

@@ -1,7 +1,8 @@
 -- What a backup makes: a checkpoint, a copy behind it, and files in a second folder.
-use Rattle.std.specs.Prelude.{ℕ, ◌≡◌, ◌≢◌, ◌⊎◌, ◌++◌, Bool, true, false, codes, List, [], ◌∷◌, None}
+use Rattle.std.specs.Prelude.{ℕ, ◌≡◌, ◌≢◌, ◌⊎◌, Bool, true, false, codes, List, [], ◌∷◌, None}
 use Rattle.std.specs.Prelude.{Ok, Option, Some, suc, zero}
 use Rattle.std.specs.Io.{StartsWith}
+use Rattle.std.specs.Io.KnownBytes.{Appends}
 use Rattle.std.specs.List.{All}
 use Rattle.copy_vault.specs.CopyWrite.{WritesCopy}
 use Rattle.copy_vault.specs.Vault.{CopyState, complete_of, state_of}
@@ -19,13 +20,14 @@ use Rattle.saved_files.specs.Folder.{unsynced}
 use Rattle.saved_files.specs.PutFault.{bytes_by}
 use Rattle.saved_files.specs.Saved.{name_of}
 use Rattle.saved_files.specs.declared.saved_name.SavedName.TheVariants as saved
-use Rattle.open_database.specs.Calls.{IsAnyReply, IsOfClosing, RunsBy}
+use Rattle.open_database.specs.Closed.{ClosesWell}
 use Rattle.open_database.specs.DatabaseFolder.{HasBytes}
 use Rattle.open_database.specs.Kept.{Names}
 use Rattle.open_database.specs.MadeFiles.{HasFile}
 use Rattle.open_database.specs.Opened.{Begins}
 use Rattle.open_database.specs.Said.{IsAnswer}
-use Rattle.open_database.specs.Words.{MakesWord, one_line}
+use Rattle.open_database.specs.Standing.{IsUnfinished}
+use Rattle.open_database.specs.Words.{MakesWord, one_line, text_of}
 use Rattle.open_database.specs.declared.first_line.FirstLine.{FirstLine}
 use Rattle.open_database.specs.declared.said.Said.TheVariants.{Reply}
 use Rattle.open_database.specs.declared.word.Word.TheVariants.{Checkpoint, Copy}
@@ -51,25 +53,35 @@ pub record CopiesBehindPoint (parent : Option ℕ) (id : ℕ) (old new : EngineS
   pub copied : IsCopied id said
   pub copy : MakesWord (Copy parent) between (one_line said) new
 
+-- the lines of a checkpoint and of that copy were written
+pub record TellsCopy (id : ℕ) (before after : Option (List ℕ)) : Type 0 where
+  pub between : Option (List ℕ)
+  pub point : Answer
+  pub first : Appends before between (text_of (one_line (Call (Reply (Ok point)))))
+  pub said : WordSaid
+  pub copied : IsCopied id said
+  pub last : Appends between after (text_of (one_line said))
+
 -- the file of that copy stands in a folder
 abbrev pub IsCopyPut : ℕ → EngineState → Option Entries → Type 0
 IsCopyPut id engine entries =
     HasFile (name_of (saved.Copy id)) (bytes_by (WritesCopy engine.copies id)) entries
 
--- the parent that a call asks for: none for a full copy, or the one that it tells; else it is chosen
+-- the parent that a call asks for: none for a full copy, or the one that it tells; else it is
+-- chosen
 abbrev pub IsAskedFor : Bool → Option ℕ → Option ℕ → Type 0
 IsAskedFor true told parent = parent ≡ None
 IsAskedFor false (Some id) parent = parent ≡ Some id
 IsAskedFor false None parent = Unit {0}
 
--- an open database made a checkpoint and such a copy, and was closed
+-- an open database made a checkpoint and such a copy, and was closed well
 pub record BacksUp (full : Bool) (told : Option ℕ) (old new : EngineState) : Type 0 where
   pub parent : Option ℕ
   pub asked : IsAskedFor full told parent
   pub id : ℕ
   pub between : EngineState
   pub copies : CopiesBehindPoint parent id old between
-  pub closing : RunsBy IsOfClosing IsAnyReply between new
+  pub closing : ClosesWell between new
 
 -- the database of a folder was opened, and backed up so
 pub record WasBackedUp (full : Bool) (told : Option ℕ) : Type 0 where
@@ -168,26 +180,27 @@ abbrev pub PutsManifestLast : Option Entries → List ℕ → List ℕ → Entri
 PutsManifestLast first ids database old new =
     (new (codes "manifest") ≡ old (codes "manifest")) ⊎ IsBackup first ids database old new
 
--- a file has such a name as long as it is not whole
-abbrev pub IsUnfinished : List ℕ → Type 0
-IsUnfinished n =
-    (whole : List ℕ) × (rest : List ℕ) × (n ≡ whole ++ (codes ".unfinished-" ++ rest))
-
 -- but for the log, the master record, the manifest and what is unfinished, no file is replaced or
 -- removed
 abbrev pub KeepsOtherFiles : Entries → Entries → Type 0
 KeepsOtherFiles old new = (n : List ℕ) → n ≢ name_of saved.Log → n ≢ name_of saved.Master
     → n ≢ codes "manifest" → ¬ IsUnfinished n → old n ≢ absent → new n ≡ old n
 
--- the file of this name is as it was, or it is the first folder's, whole
-abbrev pub IsOldOrFirst : Option Entries → List ℕ → Entries → Entries → Type 0
-IsOldOrFirst first name old new = (new name ≡ old name)
-    ⊎ ((bytes : List ℕ) × HasBytes first name bytes × (new name ≡ stored bytes))
+-- the file of this name is the first folder's, whole
+abbrev pub IsFirsts : Option Entries → List ℕ → Entries → Type 0
+IsFirsts first name new = (bytes : List ℕ) × HasBytes first name bytes × (new name ≡ stored bytes)
 
--- so is the log, and so is the master record
+-- it is as it was, or that one
+abbrev pub IsOldOrFirst : Option Entries → List ℕ → Entries → Entries → Type 0
+IsOldOrFirst first name old new = (new name ≡ old name) ⊎ IsFirsts first name new
+
+-- so is the log, and so is the master record; and that is put only where the log is the first
+-- folder's
 pub record KeepsOrPuts (first : Option Entries) (old new : Entries) : Type 0 where
   pub log : IsOldOrFirst first (name_of saved.Log) old new
   pub master : IsOldOrFirst first (name_of saved.Master) old new
+  pub order : (new (name_of saved.Master) ≡ old (name_of saved.Master))
+      ⊎ IsFirsts first (name_of saved.Log) new
 
 -- so it is with all that stood there
 pub record KeepsTheRest (first : Option Entries) (ids database : List ℕ) (old new : Entries)
@@ -198,10 +211,6 @@ pub record KeepsTheRest (first : Option Entries) (ids database : List ℕ) (old 
   pub others : KeepsOtherFiles old new
 
 -- ---- the steps of a backup
-
--- only what is unfinished is removed
-abbrev pub KeepsFinished : Entries → Entries → Type 0
-KeepsFinished old new = (n : List ℕ) → ¬ IsUnfinished n → new n ≡ old n
 
 -- each name but this one keeps what stood under it, unless it is one of an unfinished file
 abbrev pub KeepsBut : List ℕ → Entries → Entries → Type 0

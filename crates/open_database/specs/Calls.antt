@@ -8,15 +8,16 @@ use Rattle.engine_calls.specs.declared.event.Event.{Event}
 use Rattle.engine_calls.specs.declared.event.Event.TheVariants.{Abort, Add, Begin, CkptBegin}
 use Rattle.engine_calls.specs.declared.event.Event.TheVariants.{CkptEnd, CkptGather, Commit}
 use Rattle.engine_calls.specs.declared.event.Event.TheVariants.{CopyFull, CopyInc, DropCopy, Extend}
-use Rattle.engine_calls.specs.declared.event.Event.TheVariants.{Force, Read, Repair, Savepoint, Seal}
+use Rattle.engine_calls.specs.declared.event.Event.TheVariants.{Force, Read, Repair, Savepoint}
+use Rattle.engine_calls.specs.declared.event.Event.TheVariants.{Seal}
 use Rattle.engine_calls.specs.declared.event.Event.TheVariants.{Set, Take, UndoStep, UndoTo}
 use Rattle.engine_calls.specs.declared.event.Event.TheVariants.{WriteBegin, WriteEnd}
 use Rattle.engine_calls.specs.declared.refusal.Refusal.{Refusal}
 use Rattle.engine_calls.specs.declared.refusal.Refusal.TheVariants.{CopyNotComplete, CopyNotOpen}
-use Rattle.engine_calls.specs.declared.refusal.Refusal.TheVariants.{NoCkpt, TooManyCopies}
+use Rattle.engine_calls.specs.declared.refusal.Refusal.TheVariants.{NoCkpt}
 use Rattle.engine_rules.specs.EngineState.{EngineState}
 use Rattle.engine_rules.specs.Run.{Run}
-use Rattle.engine_rules.specs.Step.{IsByDevice, IsByStore, IsFaultReply}
+use Rattle.engine_rules.specs.Step.{IsByDevice, IsByStore, IsFaultReply, Step}
 use Rattle.open_database.specs.Said.{IsSaidOf}
 use Rattle.open_database.specs.declared.call_kind.CallKind.{CallKind}
 use Rattle.open_database.specs.declared.call_kind.CallKind.TheVariants.{BeginsCopy, EndsCheckpoint}
@@ -109,16 +110,18 @@ pub data SaysOf : Event → List Event → List (Result Answer Refusal) → Said
       → SaysOf (Seal id) (Seal id ∷ []) (reply ∷ []) said
   ended : (reply : Result Answer Refusal) (said : Said) → IsSaidOf reply NoCkpt said
       → SaysOf CkptEnd (CkptEnd ∷ []) (reply ∷ []) said
-  -- the last reply, behind copies that were passed over; or that none are left
+  -- the last reply, behind copies that were passed over
   begun : (parent : Option ℕ) (events : List Event) (replies : List (Result Answer Refusal))
       (reply : Result Answer Refusal) → PassesOver (copy_call parent) events replies
       → SaysOf (copy_call parent) (events ++ copy_call parent ∷ []) (replies ++ reply ∷ [])
       (Reply reply)
-  none_left : (parent : Option ℕ) (events : List Event) (replies : List (Result Answer Refusal))
-      → PassesOver (copy_call parent) events replies
-      → SaysOf (copy_call parent) events replies (Reply (Err TooManyCopies))
   -- the copy that a new one is to stand on waits for its file, and no call is made
   waits : (parent : ℕ) → SaysOf (CopyInc parent) [] [] (Reply (Err CopyNotComplete))
+
+-- the engine made just this call, and its reply is said
+abbrev pub MakesOne : Event → EngineState → Said → EngineState → Type 0
+MakesOne event old said new =
+    (reply : Result Answer Refusal) × Step old event reply new × (said ≡ Reply reply)
 
 -- the engine made calls for the call of a line, and this is said of them
 pub record Makes (event : Event) (old : EngineState) (said : Said) (new : EngineState)

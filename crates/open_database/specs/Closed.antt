@@ -3,7 +3,10 @@ use Rattle.std.specs.Prelude.{ℕ, ◌≡◌, ◌<◌, ◌⊎◌, ◌^◌, IfSom
 use Rattle.std.specs.Prelude.{codes, decimal}
 use Rattle.engine_rules.specs.EngineState.{EngineState, end}
 use Rattle.saved_files.specs.Folder.{Changes, Entries, absent}
+use Rattle.saved_files.specs.PutFault.{bytes_by}
+use Rattle.std.specs.Io.KnownBytes.{Appends}
 use Rattle.open_database.specs.Calls.{IsNoFault, IsOfClosing, RunsBy}
+use Rattle.open_database.specs.MadeFiles.{HasFile}
 use Rattle.open_database.specs.declared.closed_note.ClosedNote.{ClosedNote}
 
 -- where the log ended, in decimal digits, and a line feed
@@ -28,8 +31,16 @@ IsWithoutNote entries = IfSome entries (λ it. it (codes "closed") ≡ absent)
 abbrev pub KeepsNote : Option Entries → Option Entries → Type 0
 KeepsNote = Changes (λ old new. new (codes "closed") ≡ old (codes "closed"))
 
--- where a database was closed, it kept its folder as it was; or the log was forced and pages were
--- written, by calls in which no file failed, and all of the log is forced
+-- a database was closed well: the log was forced and pages were written, by calls in which no file
+-- failed, and all of the log is forced
+abbrev pub ClosesWell : EngineState → EngineState → Type 0
+ClosesWell old new = RunsBy IsOfClosing IsNoFault old new × (new.forced_end ≡ end new)
+
+-- where a database was closed, it kept its folder as it was, or it was closed well
 abbrev pub IsClosed : EngineState → EngineState → Type 0 → Type 0
-IsClosed old new is_kept =
-    is_kept ⊎ (RunsBy IsOfClosing IsNoFault old new × (new.forced_end ≡ end new))
+IsClosed old new is_kept = is_kept ⊎ ClosesWell old new
+
+-- the note of a closing stands in a folder: it says where the log of this engine ends
+abbrev pub IsNoted : EngineState → Option Entries → Type 0
+IsNoted engine =
+    HasFile (codes "closed") (bytes_by (λ old new. Appends old new (note_of (end engine))))

@@ -39,8 +39,8 @@ abbrev pub IsJudged : ℕ → CopyView → RestartedView → RestartedView → T
 IsJudged id copy old new =
     IsTakenUp old new id copy ⊎ (IsRefused old id copy × (new.copies ≡ old.copies))
 
--- so is one that has nothing past this end of the log that was found; one that knows of more has its
--- file moved aside, and is not taken up
+-- so is one that has nothing past this end of the log that was found; one that knows of more has
+-- its file moved aside, and is not taken up
 abbrev pub IsJudgedWithin : ℕ → ℕ → CopyView → RestartedView → RestartedView → Type 0
 IsJudgedWithin end id copy old new = (IsWithin end copy × IsJudged id copy old new)
     ⊎ ((¬ IsWithin end copy) × (new.copies ≡ old.copies))

@@ -1,6 +1,7 @@
 -- What the folder of a database tells of a name.
-use Rattle.std.specs.Prelude.{ℕ, ◌≡◌, ◌≢◌, ◌↔◌, ◌≤◌, Bool, true, false, codes, IfSome, length, List, None}
-use Rattle.std.specs.Prelude.{Option, Some, take}
+use Rattle.std.specs.Prelude.{ℕ, ◌≡◌, ◌≢◌, ◌↔◌, ◌<◌, ◌≤◌, ◌⊎◌, Bool, true, false, codes, IfSome}
+use Rattle.std.specs.Prelude.{length}
+use Rattle.std.specs.Prelude.{List, None, Option, Some, slice_index_or, take}
 use Rattle.std.specs.List.{Contains}
 use Rattle.saved_files.specs.Folder.{Entries, FolderEntry, absent, stored, unsynced}
 use Rattle.open_database.specs.declared.database_folder.Standing.{Standing}
@@ -17,8 +18,8 @@ Tells (Some entries) name false = entries name ≡ absent
 abbrev pub ListsAll : Option Entries → List (List ℕ) → Type 0
 ListsAll entries names = IfSome entries (λ it. (n : List ℕ) → it n ≢ absent ↔ Contains names n)
 
--- these bytes are read of what stands there: those that are stored; of a file that was not synced it
--- is not known which
+-- these bytes are read of what stands there: those that are stored; of a file that was not synced
+-- it is not known which
 abbrev pub AreOf : FolderEntry → Option (List ℕ) → Type 0
 AreOf absent bytes = ⊥
 AreOf unsynced bytes = Unit {0}
@@ -54,7 +55,8 @@ ReadsIn (Some it) bytes there = AreOf there (Some (bytes it))
 abbrev pub Reads : {T : Type 0} → Option T → (T → List ℕ) → Option Entries → List ℕ → Type 0
 Reads given bytes entries name = IfSome entries (λ it. ReadsIn given bytes (it name))
 
--- so many bytes were read of what stands there: its first ones, as many as there is room for in these
+-- so many bytes were read of what stands there: its first ones, as many as there is room for in
+-- these
 abbrev pub AreReadOf : FolderEntry → List ℕ → ℕ → Type 0
 AreReadOf absent bytes len = ⊥
 AreReadOf unsynced bytes len = Unit {0}
@@ -100,3 +102,21 @@ OpensLog entries held (Some log) = IsLogIn entries held log
 -- a file begins with these bytes, where it is known which it has
 abbrev pub AreFirstOf : Option (List ℕ) → List ℕ → Type 0
 AreFirstOf held bytes = IfSome held (λ all. bytes ≡ take (length bytes) all)
+
+-- ---- the file of the volume
+
+-- these bytes begin as a volume does, with the number of page 0 and that of the format, or with
+-- zeros in their place, as far as they go
+abbrev pub BeginsAsVolume : List ℕ → Type 0
+BeginsAsVolume bytes = (k : ℕ) → k < 8 → k < length bytes
+    → (slice_index_or bytes k 0 ≡ 0) ⊎ ((k ≡ 4) × (slice_index_or bytes k 0 ≡ 1))
+
+-- what stands there is no other file; of one that was not synced that is not known
+abbrev pub IsVolume : FolderEntry → Type 0
+IsVolume absent = Unit {0}
+IsVolume unsynced = Unit {0}
+IsVolume (stored bytes) = BeginsAsVolume bytes
+
+-- nothing but a volume has the volume's name in a folder, as far as that is known
+abbrev pub HasNoOtherVolume : Option Entries → Type 0
+HasNoOtherVolume entries = IfSome entries (λ it. IsVolume (it (codes "volume")))

@@ -1,13 +1,14 @@
 -- What shows that a log was longer once.
-use Rattle.std.specs.Prelude.{ℕ, ◌≡◌, ◌<◌, ◌≤◌, List, [], codes, length, take, Option, None, Some}
-use Rattle.std.specs.Prelude.{IfSome}
-use Rattle.std.specs.List.{All}
+use Rattle.std.specs.Prelude.{ℕ, ◌≡◌, ◌↔◌, ◌<◌, ◌≤◌, ◌⊎◌, ◌++◌, List, [], ◌∷◌, codes, length, take}
+use Rattle.std.specs.Prelude.{IfSome, None, Option, Some}
+use Rattle.std.specs.List.{All, Contains}
 use Rattle.image_copies.specs.Copy.{CopyView, PageDecision, decision_at, kept, taken, undecided}
 use Rattle.log_front.specs.Remains.{WasForced}
 use Rattle.log_store.specs.declared.master.Master.{Master}
 use Rattle.manifest.specs.declared.entry.FileSum.{FileSum}
 use Rattle.manifest.specs.Entries.{Listed, file_of}
-use Rattle.manifest.specs.Sums.{IsSumOf}
+use Rattle.manifest.specs.Sums.{HasSummed, IsSumOf}
+use Rattle.manifest.specs.declared.sums.Sums.{Sums}
 use Rattle.open_database.specs.declared.closed_note.ClosedNote.{ClosedNote}
 use Rattle.open_database.specs.declared.evidence.Claim.{Claim}
 use Rattle.open_database.specs.declared.evidence.Witness.{Witness}
@@ -64,8 +65,15 @@ pub record IsBegunIn (end : ℕ) (bytes : List ℕ) (file : FileSum) : Type 0 wh
   pub within : file.bytes ≤ end
   pub same : BeginsAs file bytes
 
--- nothing that was found knows of a forced record that a log which ends here lacks, and the log begins
--- with the bytes that the manifest names
+-- just the bytes are summed that a manifest names of a log, which begins with them
+abbrev pub HaveSummedNamed : ℕ → List ℕ → Option FileSum → Option Sums → Type 0
+HaveSummedNamed end bytes line None = Unit {0}
+HaveSummedNamed end bytes None (Some sums) = ⊥
+HaveSummedNamed end bytes (Some line) (Some sums) =
+    HasSummed sums (take line.bytes bytes) × IsBegunIn end bytes line
+
+-- nothing that was found knows of a forced record that a log which ends here lacks, and the log
+-- begins with the bytes that the manifest names
 pub record LacksNothing (end : ℕ) (note : Option ClosedNote) (manifest : Option Listed)
     (master : Option Master) (copies : List CopyFile) (bytes : List ℕ) : Type 0 where
   pub closed : IfSome note (λ it. it.end ≤ end)
@@ -74,6 +82,38 @@ pub record LacksNothing (end : ℕ) (note : Option ClosedNote) (manifest : Optio
   pub copied : All (IsFileWithin end) copies
   pub behind : (at : ℕ) → end ≤ at → ¬ WasForced bytes at
 
--- where no claim is missed now, none was before, and this holds
-abbrev pub Hears : List Claim → List Claim → Type 0 → Type 0
-Hears old new holds = new ≡ [] → (old ≡ []) × holds
+-- ---- the claims that are noted
+
+-- a claim is noted behind the older ones just where the log lacks what it says
+abbrev pub NotesMissed : ℕ → Claim → List Claim → List Claim → Type 0
+NotesMissed end claim old new = (IsMissed claim end × (new ≡ old ++ claim ∷ []))
+    ⊎ ((¬ IsMissed claim end) × (new ≡ old))
+
+-- claims of this kind are noted behind the older ones; and none is, just where this holds
+pub record Hears (is_so : Claim → Type 0) (old new : List Claim) (holds : Type 0) : Type 0 where
+  pub more : List Claim
+  pub behind : new ≡ old ++ more
+  pub each : All is_so more
+  pub none : (more ≡ []) ↔ holds
+
+-- a claim is one of this witness
+abbrev pub IsBy : Witness → Claim → Type 0
+IsBy witness claim = claim.witness ≡ witness
+
+-- of the manifest
+abbrev pub IsByManifest : Claim → Type 0
+IsByManifest claim = IsBy witness.Manifest claim ⊎ IsBy witness.Changed claim
+
+-- of the copy that stands under the name of this id
+abbrev pub IsOfCopy : ℕ → Claim → Type 0
+IsOfCopy id claim = IsBy (witness.Begin id) claim ⊎ ((page : ℕ) × IsBy (witness.Page id page) claim)
+
+-- of the file of one of these copies, which knows of more than a log that ends here has
+abbrev pub IsOfLongerCopy : ℕ → List CopyFile → Claim → Type 0
+IsOfLongerCopy end copies claim = (file : CopyFile) × Contains copies file
+    × (¬ IsFileWithin end file) × IsOfCopy file.id claim
+
+-- the file of a copy knows of no more than the log has, or one of the claims names it by its id
+abbrev pub IsHeard : ℕ → List Claim → CopyFile → Type 0
+IsHeard end claims file = IsFileWithin end file
+    ⊎ ((claim : Claim) × Contains claims claim × IsOfCopy file.id claim)

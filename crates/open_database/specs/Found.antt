@@ -1,6 +1,8 @@
--- What an opening finds in a folder: which names something has, and what the files beside the log spell.
-use Rattle.std.specs.Prelude.{ℕ, ◌≡◌, ◌≢◌, ◌↔◌, ◌<◌, ◌^◌, IfSome, IsTrue, List, codes, decimal, map, None}
-use Rattle.std.specs.Prelude.{Option, Some}
+-- What an opening finds in a folder: which names something has, and what the files beside the log
+-- spell.
+use Rattle.std.specs.Prelude.{ℕ, ◌≡◌, ◌≢◌, ◌↔◌, ◌<◌, ◌^◌, IfSome, IsTrue, List, codes, decimal, map}
+use Rattle.std.specs.Prelude.{None}
+use Rattle.std.specs.Prelude.{Option, Some, string_bytes}
 use Rattle.std.specs.List.{All, Contains}
 use Rattle.copy_archives.specs.Archive.{SpellsCopy}
 use Rattle.copy_archives.specs.ArchiveFault.{IsOutside}
@@ -14,6 +16,7 @@ use Rattle.saved_files.specs.Folder.{Entries, FolderEntry, absent, stored, unsyn
 use Rattle.saved_files.specs.Saved.{name_of}
 use Rattle.saved_files.specs.declared.saved_name.SavedName.TheVariants as saved
 use Rattle.open_database.specs.Closed.{SpellsNote}
+use Rattle.open_database.specs.Standing.{IsUnfinished}
 use Rattle.open_database.specs.declared.closed_note.ClosedNote.{ClosedNote}
 use Rattle.open_database.specs.declared.found_copies.CopyFile.{CopyFile}
 use Rattle.open_database.specs.declared.found_copies.FoundCopy.{FoundCopy}
@@ -46,7 +49,8 @@ pub record SpellsManifest (it : Listed) (bytes : List ℕ) : Type 0 where
   pub valid : IsManifest it
   pub spelled : bytes ≡ manifest_text it
 
--- what is read of the file of a copy: the copy that it spells; or it spells none, or could not be read
+-- what is read of the file of a copy: the copy that it spells; or it spells none, or could not be
+-- read
 abbrev pub IsCopyReadOf : List ℕ → FoundCopy → Type 0
 IsCopyReadOf bytes (found.Whole copy) = SpellsCopy copy bytes
 IsCopyReadOf bytes (found.Wrong why) = (copy : CopyView) → ¬ SpellsCopy copy bytes
@@ -60,7 +64,8 @@ IsRefusedFor fault (found.Unread why) = Unit {0}
 
 -- ---- which names something has
 
--- it tells just which names of a database's files are had
+-- it tells just which names of a database's files are had, and only of names of unfinished files
+-- that these are to go
 pub record TellsNames (is_had : List ℕ → Type 0) (it : Inventory) : Type 0 where
   pub log : IsTrue it.has_log ↔ is_had (codes "log")
   pub volume : IsTrue it.has_volume ↔ is_had (codes "volume")
@@ -68,6 +73,7 @@ pub record TellsNames (is_had : List ℕ → Type 0) (it : Inventory) : Type 0 w
   pub closed : IsTrue it.has_closed ↔ is_had (codes "closed")
   pub manifest : IsTrue it.has_manifest ↔ is_had (codes "manifest")
   pub copies : (id : ℕ) → Contains it.copies.items id ↔ (IsCopyId id × is_had (name_of (saved.Copy id)))
+  pub unfinished : All IsUnfinished (map string_bytes it.unfinished.items)
 
 -- something has a name in a folder
 abbrev pub IsHadIn : Entries → List ℕ → Type 0
@@ -79,8 +85,8 @@ IsInventoryOf entries it = IfSome entries (λ there. TellsNames (IsHadIn there) 
 
 -- ---- what the files beside the log spell
 
--- what is found under a name is what stands there: nothing where nothing does, or what is read of the
--- bytes that are stored; of a file that was not synced it is not known which these are
+-- what is found under a name is what stands there: nothing where nothing does, or what is read of
+-- the bytes that are stored; of a file that was not synced it is not known which these are
 abbrev pub IsFoundAt : {T : Type 0} → (T → List ℕ → Type 0) → FolderEntry → Option T → Type 0
 IsFoundAt spells absent it = it ≡ None
 IsFoundAt spells unsynced it = Unit {0}

@@ -1,13 +1,27 @@
 -- The manifest that an open database keeps.
-use Rattle.std.specs.Prelude.{ℕ, ◌≡◌, ◌-◌, ◌/◌, ◌++◌, List, None, Option, Some, take}
+use Rattle.std.specs.Prelude.{ℕ, ◌≡◌, ◌≢◌, ◌-◌, ◌/◌, ◌++◌, codes, false, if◌then◌else◌, IfSome}
+use Rattle.std.specs.Prelude.{List, None}
+use Rattle.std.specs.Prelude.{Option, Some, take}
+use Rattle.std.specs.Io.KnownBytes.{Appends}
 use Rattle.std.specs.List.{flat_map}
+use Rattle.std.specs.Str.{bytes_eq}
 use Rattle.log_records.specs.Log.{Log, header_bytes}
 use Rattle.log_records.specs.Record.{record_bytes}
+use Rattle.manifest.specs.declared.entry.Extent.{Extent}
+use Rattle.manifest.specs.declared.entry.Extent.TheVariants.{First, Whole}
 use Rattle.manifest.specs.declared.entry.FileSum.{FileSum}
-use Rattle.manifest.specs.Entries.{Noted, file_of}
+use Rattle.manifest.specs.Entries.{Listed, Noted, file_of}
 use Rattle.manifest.specs.Sums.{HasSummed, IsSumOf}
+use Rattle.manifest.specs.Text.{manifest_text}
 use Rattle.manifest.specs.declared.sums.Sums.{Sums}
+use Rattle.saved_files.specs.Folder.{Entries, absent}
+use Rattle.saved_files.specs.PutFault.{bytes_by}
+use Rattle.saved_files.specs.Saved.{name_of}
+use Rattle.saved_files.specs.declared.saved_name.SavedName.TheVariants as saved
+use Rattle.open_database.specs.Found.{IsFoundIn, SpellsManifest}
+use Rattle.open_database.specs.MadeFiles.{HasFile}
 use Rattle.open_database.specs.declared.kept_manifest.LogSums.{LogSums}
+use Rattle.open_database.specs.declared.placed.Placed.{Placed}
 
 -- how many records of a log stand below an LSN
 abbrev pub count_below : ℕ → ℕ
@@ -29,10 +43,41 @@ HaveSummedLine None line log = Unit {0}
 HaveSummedLine (Some sums) None log = Unit {0}
 HaveSummedLine (Some sums) (Some line) log = HasSummed sums (bytes_below line.bytes log)
 
+-- how much of a file is summed: of the log, which may grow, its first bytes, and all of another one
+abbrev pub extent_of : List ℕ → Extent
+extent_of name = if bytes_eq name (codes "log") then First else Whole
+
+-- nothing was put in place that is still to be named
+abbrev pub IsNothing : Placed → Type 0
+IsNothing placed = (placed.copy ≡ None) × (placed.master ≡ false)
+
+-- this manifest stands in a folder
+abbrev pub IsManifestIn : Option Entries → Listed → Type 0
+IsManifestIn entries it = HasFile (codes "manifest")
+    (bytes_by (λ old new. Appends old new (manifest_text it))) entries
+
 -- under this name a file of such bytes is named
 pub record Names (entries : List Noted) (name : List ℕ) (fits : List ℕ → Type 0) : Type 0 where
   pub file : FileSum
   pub there : file_of name entries ≡ Some file
+  pub extent : file.extent ≡ extent_of name
   pub bytes : List ℕ
   pub right : fits bytes
   pub sum : IsSumOf file.sum file.bytes bytes
+
+-- but for the log, the master record and this copy, what is known of a file is as before
+abbrev pub KeepsOtherLines : Option ℕ → List Noted → List Noted → Type 0
+KeepsOtherLines copy old new = (name : List ℕ) → name ≢ name_of saved.Log
+    → name ≢ name_of saved.Master → IfSome copy (λ id. name ≢ name_of (saved.Copy id))
+    → file_of name new ≡ file_of name old
+
+-- of the files that stand in a folder, as far as that is known, all is noted that was
+abbrev pub KeepsLines : Option Entries → List Noted → List Noted → Type 0
+KeepsLines entries old new =
+    IfSome entries (λ there. (n : List ℕ) → there n ≢ absent → file_of n new ≡ file_of n old)
+
+-- these lines are those of the manifest that stands there, without those of files that do not
+pub record TakesLines (entries : Option Entries) (lines : List Noted) : Type 0 where
+  pub found : Option Listed
+  pub there : IsFoundIn SpellsManifest entries (codes "manifest") found
+  pub kept : IfSome found (λ it. KeepsLines entries it.entries lines)

@@ -19,6 +19,7 @@ pub mod PowerCuts
 pub mod Refused
 pub mod Said
 pub mod Session
+pub mod Standing
 pub mod WholeLives
 pub mod WordCopies
 pub mod Words

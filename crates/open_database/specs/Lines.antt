@@ -14,8 +14,8 @@ use Rattle.open_database.specs.declared.line_reader.NextLine.TheVariants as next
 
 -- ---- lines
 
--- what is read as a line: the bytes before a line feed; those behind the last one, if there are some;
--- or more bytes than a line has at most
+-- what is read as a line: the bytes before a line feed; those behind the last one, if there are
+-- some; or more bytes than a line has at most
 pub data Line : Type 0 where
   whole : (bytes : List ℕ) → Line
   unended : (bytes : List ℕ) → Line

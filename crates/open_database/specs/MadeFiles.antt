@@ -1,10 +1,12 @@
 -- The files that a call makes, which are in place before it is answered.
-use Rattle.std.specs.Prelude.{ℕ, ◌≡◌, IfSome, List, Option, Ok, Err}
+use Rattle.std.specs.Prelude.{ℕ, ◌≡◌, ◌⊎◌, IfSome, List, [], Option, Some, None, Ok, Err}
 use Rattle.std.specs.Io.KnownBytes.{Appends}
 use Rattle.std.specs.List.{Contains}
 use Rattle.copy_vault.specs.CopyWrite.{WritesCopy}
+use Rattle.copy_vault.specs.Vault.{CopyState, complete}
+use Rattle.image_copies.specs.Copy.{taken_count}
 use Rattle.engine_calls.specs.declared.event.Answer.{Answer}
-use Rattle.engine_calls.specs.declared.event.Answer.TheVariants.{Copied, Point}
+use Rattle.engine_calls.specs.declared.event.Answer.TheVariants.{Copied, Point, Sealed}
 use Rattle.engine_calls.specs.declared.event.Event.{Event}
 use Rattle.engine_calls.specs.declared.event.Event.TheVariants.{CkptEnd, CopyFull, CopyInc, Seal}
 use Rattle.engine_calls.specs.declared.refusal.Refusal.{Refusal}
@@ -17,12 +19,14 @@ use Rattle.saved_files.specs.PutFault.{bytes_by}
 use Rattle.saved_files.specs.Saved.{name_of}
 use Rattle.saved_files.specs.declared.saved_name.SavedName.TheVariants as saved
 use Rattle.std.specs.Prelude.{Result}
-use Rattle.open_database.specs.Pending.{Waits, WaitsUnlessPlaced}
-use Rattle.open_database.specs.Said.{IsAnswer, IsSaidOf}
-use Rattle.open_database.specs.Words.{IsSaidOnce, Told, one_line}
+use Rattle.open_database.specs.Calls.{IsAnyReply, MakesOne, RunsBy}
+use Rattle.open_database.specs.Pending.{PointWaits, Waits, WaitsUnlessPlaced}
+use Rattle.open_database.specs.Said.{IsAnswer, IsAnswerOr, IsSaidOf}
+use Rattle.open_database.specs.WordCopies.{BeginsAndFills, EndsBySeal, IsPointNew}
+use Rattle.open_database.specs.Words.{IsOfCheckpoint, IsSaidOnce, MakesWord, Runs, Told, one_line}
 use Rattle.open_database.specs.declared.pending.Stage.{Stage}
 use Rattle.open_database.specs.declared.said.Said.{Said}
-use Rattle.open_database.specs.declared.said.Said.TheVariants.{Reply}
+use Rattle.open_database.specs.declared.said.Said.TheVariants.{Reply, Unplaced}
 use Rattle.open_database.specs.declared.unplaced_point.UnplacedPoint.{UnplacedPoint}
 use Rattle.open_database.specs.declared.word.Word.{Word}
 use Rattle.open_database.specs.declared.word.Word.TheVariants.{Checkpoint, Copy}
@@ -40,9 +44,11 @@ abbrev pub EndsCheckpoint : EngineState → Said → EngineState → Type 0
 EndsCheckpoint old said new =
     (reply : Result Answer Refusal) × Step old CkptEnd reply new × IsSaidOnce reply said
 
--- the answer of the call that ended a checkpoint
-abbrev pub answer_of : UnplacedPoint → Answer
-answer_of point = Point point.begin point.end point.redo
+-- a checkpoint that is answered is the one that the engine has ended now, or the one that waited
+abbrev pub IsEndedOrWaited : EngineState → Option UnplacedPoint → Said → EngineState → Type 0
+IsEndedOrWaited old waiting (Reply (Ok answer)) new =
+    Step old CkptEnd (Ok answer) new ⊎ PointWaits waiting answer
+IsEndedOrWaited old waiting said new = Unit {0}
 
 -- these bytes are the master record of a checkpoint
 abbrev pub is_master : ℕ → ℕ → List ℕ → Type 0
@@ -104,6 +110,12 @@ abbrev pub WaitsFor : Event → Said → List Stage → Type 0
 WaitsFor (Seal id) said stages = WaitsUnlessPlaced id said stages
 WaitsFor other said stages = Unit {0}
 
+-- of a complete copy whose file was not in place, its pages are told once more, or that it still is
+-- not
+abbrev pub IsSealedAgain : CopyState → Said → Type 0
+IsSealedAgain (complete copy) said = IsAnswerOr (Sealed (taken_count copy.pages)) said
+IsSealedAgain other said = Unit {0}
+
 -- a new copy has no id of a file that could not be read
 abbrev pub IsGiven : Event → Said → List ℕ → Type 0
 IsGiven CopyFull said unread = IsCopy said (λ id. ¬ Contains unread id)
@@ -115,3 +127,66 @@ abbrev pub StandsOnPlaced : Event → Said → List Stage → Type 0
 StandsOnPlaced (CopyInc parent) said stages =
     Waits stages parent → said ≡ Reply (Err CopyNotComplete)
 StandsOnPlaced other said stages = Unit {0}
+
+-- where each file of a copy could be read, a copy is begun by one call, whose reply is said
+abbrev pub IsBegunAtOnce
+    : Event → List ℕ → List Stage → EngineState → Said → EngineState → Type 0
+IsBegunAtOnce CopyFull unread stages old said new = unread ≡ [] → MakesOne CopyFull old said new
+IsBegunAtOnce (CopyInc parent) unread stages old said new =
+    unread ≡ [] → ¬ Waits stages parent → MakesOne (CopyInc parent) old said new
+IsBegunAtOnce other unread stages old said new = Unit {0}
+
+-- ---- the copy of a word
+
+-- a copy that is told does not wait for its file; where that is not in place, the copy that the
+-- last call made complete does
+abbrev pub WaitsUnlessCopied : ℕ → WordSaid → List Stage → EngineState → EngineState → Type 0
+WaitsUnlessCopied id (word_said.Copied other pages taken) stages old new =
+    (other ≡ id) × ¬ Waits stages id
+WaitsUnlessCopied id (word_said.Call (Unplaced fault)) stages old new =
+    Waits stages id × Runs (EndsBySeal id) old new
+WaitsUnlessCopied id (word_said.Call (Reply reply)) stages old new = Unit {0}
+WaitsUnlessCopied id (word_said.Flushed count) stages old new = Unit {0}
+
+abbrev pub SomeCopyWaits : WordSaid → List Stage → EngineState → EngineState → Type 0
+SomeCopyWaits said stages old new = (id : ℕ) × WaitsUnlessCopied id said stages old new
+
+-- the same, or the master record of the checkpoint before it is not in place
+abbrev pub ItsFileWaits : WordSaid → List Stage → EngineState → EngineState → Type 0
+ItsFileWaits said stages old new =
+    SomeCopyWaits said stages old new ⊎ MakesWord Checkpoint old (one_line said) new
+
+-- no copy is told
+abbrev pub TellsNoCopy : WordSaid → Type 0
+TellsNoCopy (word_said.Copied id pages taken) = ⊥
+TellsNoCopy (word_said.Call said) = Unit {0}
+TellsNoCopy (word_said.Flushed count) = Unit {0}
+
+-- no copy stands on one that waits for its file: no call is made then but those of a checkpoint
+abbrev pub CopyStandsOnPlaced
+    : Option ℕ → WordSaid → List Stage → EngineState → EngineState → Type 0
+CopyStandsOnPlaced None said stages old new = Unit {0}
+CopyStandsOnPlaced (Some parent) said stages old new =
+    Waits stages parent → TellsNoCopy said × RunsBy IsOfCheckpoint IsAnyReply old new
+
+-- the copy that is told has no id of a file that could not be read
+abbrev pub IsCopyGiven : WordSaid → List ℕ → Type 0
+IsCopyGiven (word_said.Copied id pages taken) unread = ¬ Contains unread id
+IsCopyGiven (word_said.Call said) unread = Unit {0}
+IsCopyGiven (word_said.Flushed count) unread = Unit {0}
+
+-- behind which checkpoint a copy is begun: the last one, where that is new, and its master record
+-- is in place; or another one, which was made before, and answered; or that was not, and none is
+-- begun
+pub data IsBehindPoint (parent : Option ℕ) (point : Option UnplacedPoint) (old : EngineState)
+    (said : WordSaid) (new : EngineState) : Type 0 where
+  behind_last : IsPointNew old → point ≡ None
+      → Runs (λ events replies. BeginsAndFills parent events replies said) old new
+      → IsBehindPoint parent point old said new
+  behind_another : (mid : EngineState) (call : Said) → IsAnswer call
+      → MakesWord Checkpoint old (one_line (word_said.Call call)) mid
+      → Runs (λ events replies. BeginsAndFills parent events replies said) mid new
+      → IsBehindPoint parent point old said new
+  not_behind : (call : Said) → ¬ IsAnswer call → said ≡ word_said.Call call
+      → MakesWord Checkpoint old (one_line (word_said.Call call)) new
+      → IsBehindPoint parent point old said new

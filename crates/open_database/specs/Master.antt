@@ -1,6 +1,14 @@
 -- The master record, as it is found.
-use Rattle.std.specs.Prelude.{Option, Some, None}
+use Rattle.std.specs.Prelude.{ℕ, ◌≡◌, ◌↔◌, ◌≤◌, ◌⊎◌, Bool, IsSomeAnd, IsTrue, List, Option, Some}
+use Rattle.std.specs.Prelude.{None}
+use Rattle.std.specs.Prelude.{slice_get}
+use Rattle.fuzzy_ckpt.specs.LogCheckpoints.{IsLastPoint}
+use Rattle.fuzzy_ckpt.specs.declared.point.Point.{Point}
+use Rattle.log_records.specs.Log.{Log}
+use Rattle.log_records.specs.declared.record.Record.{Record}
+use Rattle.log_records.specs.declared.record.Record.TheVariants.{EndChkpt}
 use Rattle.log_store.specs.declared.master.Master.{Master}
+use Rattle.open_database.specs.Kept.{count_below}
 use Rattle.open_database.specs.declared.found_master.FoundMaster.{FoundMaster}
 use Rattle.open_database.specs.declared.found_master.FoundMaster.TheVariants as found
 
@@ -9,3 +17,39 @@ abbrev pub spelled : FoundMaster → Option Master
 spelled found.Absent = None
 spelled (found.Spelled master) = Some master
 spelled found.Wrong = None
+
+-- a master record names a checkpoint; or there is neither
+abbrev pub NamesPoint : Option Master → Option Point → Type 0
+NamesPoint None None = Unit {0}
+NamesPoint None (Some point) = ⊥
+NamesPoint (Some master) None = ⊥
+NamesPoint (Some master) (Some point) = (master.begin ≡ point.begin) × (master.end ≡ point.end)
+
+-- the checkpoint whose master record is to be put: none where the master record names the last
+-- complete one of the log, and else that one
+pub record IsUnnamed (log : Log) (master : Option Master) (unnamed : Option Point) : Type 0 where
+  pub last : Option Point
+  pub is_last : IsLastPoint log log.records last
+  pub either : (NamesPoint master last × (unnamed ≡ None)) ⊎ ((¬ NamesPoint master last) × (unnamed ≡ last))
+
+-- a record ends a checkpoint that began there
+abbrev pub IsEndFrom : ℕ → Record → Type 0
+IsEndFrom begin (EndChkpt lsn from redo) = from ≡ begin
+IsEndFrom begin other = ⊥
+
+-- among these records the end of the checkpoint stands that a master record names
+abbrev pub HasCheckpointOf : List Record → Master → Type 0
+HasCheckpointOf records master = (64 ≤ master.end)
+    × IsSomeAnd (slice_get records (count_below master.end)) (IsEndFrom master.begin)
+
+-- nothing stands as the master record, or that of a checkpoint among these records
+abbrev pub IsOfRecords : List Record → FoundMaster → Type 0
+IsOfRecords records found.Absent = Unit {0}
+IsOfRecords records (found.Spelled master) = HasCheckpointOf records master
+IsOfRecords records found.Wrong = ⊥
+
+-- it is told whether what stands as the master record, which spells this one if it spells one, is
+-- of another log
+abbrev pub TellsWrong : Log → Option Master → Bool → Type 0
+TellsWrong log master is_wrong = (it : FoundMaster) × (spelled it ≡ master)
+    × (IsTrue is_wrong ↔ (¬ IsOfRecords log.records it))

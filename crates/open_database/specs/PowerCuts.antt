@@ -14,8 +14,8 @@ use Rattle.engine_rules.specs.Run.{Run}
 use Rattle.engine_restart.specs.Lives.{GoesOnFrom, Life}
 use Rattle.engine_restart.specs.Restart.{undone_log}
 
--- a crash at this moment may leave a content of a log's disk of which this log is the longest front.
--- What the disk gave when it was opened was right, or was stored again since
+-- a crash at this moment may leave a content of a log's disk of which this log is the longest
+-- front. What the disk gave when it was opened was right, or was stored again since
 pub record MayBeRead {D : Type 0} (may_leave : D → List ℕ → Type 0) (is_clean : D → Bool)
     (device : LogOnDisk D) (log : Log) : Type 0 where
   pub trusted : IsTrusted is_clean device
@@ -31,7 +31,8 @@ pub record HasForced (s : EngineState) (log : Log) : Type 0 where
   pub end : s.forced_end ≡ lsn_of count
   pub same : first_records count log ≡ first_records count (log_of s)
 
--- the Commit stands in the log, and its transaction is not open at the end: undo does not take it back
+-- the Commit stands in the log, and its transaction is not open at the end: undo does not take it
+-- back
 pub record IsCommittedIn (rs : List Record) (commit : AnsweredCommit) : Type 0 where
   pub stands : StandsIn rs commit
   pub closed : is_open rs commit.txn ≡ false
@@ -40,14 +41,16 @@ pub record IsCommittedIn (rs : List Record) (commit : AnsweredCommit) : Type 0 w
 abbrev pub BeginsWith : Log → Log → Type 0
 BeginsWith first log = (more : List Record) × (log ≡ with_next first more)
 
--- the calls lead from one engine to the other, and the log that the loss left has each forced record
+-- the calls lead from one engine to the other, and the log that the loss left has each forced
+-- record
 pub record IsCutLife (life : Life) : Type 0 where
   pub fit : All EventFits life.events
   pub run : Run life.began life.events life.replies life.lost
   pub has : HasForced life.lost life.left
 
--- each life goes on from a log that begins with the one which the life before it left, once what was
--- open there is taken back: restarts between them that were cut short may have left more behind it
+-- each life goes on from a log that begins with the one which the life before it left, once what
+-- was open there is taken back: restarts between them that were cut short may have left more behind
+-- it
 abbrev pub FollowCuts : Life → List Life → Type 0
 FollowCuts life [] = Unit {0}
 FollowCuts life (next ∷ later) =

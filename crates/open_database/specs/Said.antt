@@ -1,7 +1,8 @@
 -- What an open database says of a call.
-use Rattle.std.specs.Prelude.{ℕ, ◌≡◌, List, [], ◌∷◌, ◌++◌, Result, Ok, Err}
+use Rattle.std.specs.Prelude.{ℕ, ◌≡◌, ◌⊎◌, List, [], ◌∷◌, ◌++◌, Result, Ok, Err}
 use Rattle.engine_calls.specs.declared.event.Answer.{Answer}
 use Rattle.engine_calls.specs.declared.refusal.Refusal.{Refusal}
+use Rattle.engine_rules.specs.Step.{IsByDevice, IsByStore, IsFaultReply}
 use Rattle.event_script.specs.Reply.{line_of_reply}
 use Rattle.saved_files.specs.FileFault.{line_of as line_of_fault}
 use Rattle.open_database.specs.declared.said.Said.{Said}
@@ -25,11 +26,21 @@ IsSaidOf (Err why) again (Reply (Ok answer)) = why ≡ again
 IsSaidOf (Ok answer) again (Unplaced fault) = Unit {0}
 IsSaidOf (Err why) again (Unplaced fault) = why ≡ again
 
+-- a file failed: one of the engine's, or the one that the call makes
+abbrev pub IsFault : Said → Type 0
+IsFault (Reply reply) = IsFaultReply IsByDevice reply ⊎ IsFaultReply IsByStore reply
+IsFault (Unplaced fault) = Unit {0}
+
 -- a call was accepted
 abbrev pub IsAnswer : Said → Type 0
 IsAnswer (Reply (Ok answer)) = Unit {0}
 IsAnswer (Reply (Err why)) = ⊥
 IsAnswer (Unplaced fault) = ⊥
+
+-- what the engine replied is said, and no file was to be put in place
+abbrev pub IsReply : Said → Type 0
+IsReply (Reply said) = Unit {0}
+IsReply (Unplaced fault) = ⊥
 
 -- this is answered, or that a file is not in place
 abbrev pub IsAnswerOr : Answer → Said → Type 0

@@ -1,6 +1,7 @@
 -- The lines of an open database, and what is written of them.
-use Rattle.std.specs.Prelude.{ℕ, ◌≡◌, ◌+◌, ◌<◌, List, [], ◌∷◌, ◌++◌, Option, Some, None, length, take}
-use Rattle.std.specs.Prelude.{Result, Ok, Err, codes}
+use Rattle.std.specs.Prelude.{ℕ, ◌≡◌, ◌+◌, ◌<◌, List, [], ◌∷◌, ◌++◌, Option, Some, None, length}
+use Rattle.std.specs.Prelude.{take}
+use Rattle.std.specs.Prelude.{IfSome, Result, Ok, Err, codes}
 use Rattle.std.specs.Fmt.{decimal}
 use Rattle.std.specs.Io.KnownBytes.{Appends, Keeps}
 use Rattle.std.specs.List.{All}
@@ -16,12 +17,15 @@ use Rattle.event_script.specs.Words.{lines_of}
 use Rattle.event_script.specs.declared.script.LastRestore.{LastRestore}
 use Rattle.saved_files.specs.Folder.{Entries}
 use Rattle.open_database.specs.Calls.{IsAnyReply, IsOfClosing, Makes, RunsBy, SaysOf}
+use Rattle.open_database.specs.Closed.{ClosesWell}
 use Rattle.open_database.specs.Lines.{AreAllLines, AreFirstLines, Line, too_long, unended, whole}
 use Rattle.open_database.specs.MadeFiles.{HasPlaced, HasStored, IsInPlace, IsStoredFor}
 use Rattle.open_database.specs.Said.{said_line}
-use Rattle.open_database.specs.Words.{BeginsAsWord, MakesWord, SaysOfWord, Spells, Told, text_of}
+use Rattle.open_database.specs.Words.{BeginsAsWord, IsNoWord, MakesWord, SaysOfWord, Spells, Told}
+use Rattle.open_database.specs.Words.{text_of}
 use Rattle.open_database.specs.declared.bad_call.LineTrouble.{LineTrouble}
 use Rattle.open_database.specs.declared.bad_call.LineTrouble.TheVariants as trouble
+use Rattle.open_database.specs.declared.line_reader.TheConstants.{MOST_LINE}
 use Rattle.open_database.specs.declared.order.Order.{Order}
 use Rattle.open_database.specs.declared.order.Order.TheVariants as order
 use Rattle.open_database.specs.declared.said.Said.{Said}
@@ -49,18 +53,22 @@ Says line None = SaysCall line None
 Says line (Some (order.Call event)) = SaysCall line (Some event)
 Says line (Some (order.Word word)) = Spells line word
 
--- a line is none of these, for this reason: read as a script it is bad, or a restore, which an open
--- database has not; or it is no text; or it begins as a word of an operator
-abbrev pub IsNoOrder : List ℕ → LineTrouble → Type 0
-IsNoOrder line (trouble.Bad why) = (number : ℕ) × IsFirstBad (lines_of line) number
-IsNoOrder line trouble.Restore =
+-- a line says no call: read as a script it is bad, or a restore, which an open database has not; or
+-- it is no text; or it begins as a word of an operator
+abbrev pub IsNoCall : List ℕ → LineTrouble → Type 0
+IsNoCall line (trouble.Bad why) = (number : ℕ) × IsFirstBad (lines_of line) number
+IsNoCall line trouble.Restore =
     (events : List Event) × (last : LastRestore)
     × (said_in (lines_of line) ≡ Some (events, Some last))
-IsNoOrder line trouble.NoText = ¬ IsText line
-IsNoOrder line trouble.NotAlone = BeginsAsWord line
-IsNoOrder line trouble.NoCopyWord = BeginsAsWord line
-IsNoOrder line trouble.TooLong = ⊥
-IsNoOrder line trouble.Unended = ⊥
+IsNoCall line trouble.NoText = ¬ IsText line
+IsNoCall line trouble.NotAlone = BeginsAsWord line
+IsNoCall line trouble.NoCopyWord = BeginsAsWord line
+IsNoCall line trouble.TooLong = ⊥
+IsNoCall line trouble.Unended = ⊥
+
+-- a line is no order, for this reason: it says no call, and no word either
+abbrev pub IsNoOrder : List ℕ → LineTrouble → Type 0
+IsNoOrder line why = IsNoCall line why × IsNoWord line
 
 -- what was read as a line says this, or is no order for this reason: one that is whole an order or
 -- nothing, and one that no line feed ends nothing
@@ -84,14 +92,31 @@ LeavesLine old new line ReadFault = ⊥
 LeavesLine old new line (WriteFault done) =
     (done < length line) × Appends old new (take done line)
 
+-- what is told of a line that is no call, for this reason; that of a bad line of a script depends
+-- on the line's own words, and is not said here
+abbrev pub words_for : LineTrouble → Option (List ℕ)
+words_for (trouble.Bad why) = None
+words_for trouble.NoText = Some (codes "not UTF-8")
+words_for trouble.TooLong = Some (codes "over " ++ (decimal MOST_LINE ++ codes " bytes"))
+words_for trouble.Unended = Some (codes "it has no line feed, and was not made")
+words_for trouble.Restore = Some (codes "an open database has no `restore`")
+words_for trouble.NotAlone = Some (codes "this word stands alone")
+words_for trouble.NoCopyWord = Some (codes "this word is `copy` or `copy on N`, of a copy N")
+
+-- a text is that, where it is said
+abbrev pub TellsOf : LineTrouble → List ℕ → Type 0
+TellsOf why text = IfSome (words_for why) (λ words. text ≡ words)
+
 -- a line that is no call has its answer
-abbrev pub WritesBad : ℕ → Option (List ℕ) → Option (List ℕ) → Type 0
-WritesBad number before after = (why : List ℕ) × Appends before after (bad_line number why)
+abbrev pub WritesBad : ℕ → LineTrouble → Option (List ℕ) → Option (List ℕ) → Type 0
+WritesBad number why before after =
+    (text : List ℕ) × TellsOf why text × Appends before after (bad_line number text)
 
 -- its answer was not written, or not all of it
-abbrev pub LeavesBad : ℕ → Option (List ℕ) → Option (List ℕ) → ServeFault → Type 0
-LeavesBad number before after fault =
-    (why : List ℕ) × LeavesLine before after (bad_line number why) fault
+abbrev pub LeavesBad
+    : ℕ → LineTrouble → Option (List ℕ) → Option (List ℕ) → ServeFault → Type 0
+LeavesBad number why before after fault =
+    (text : List ℕ) × TellsOf why text × LeavesLine before after (bad_line number text) fault
 
 -- the engine made the call of a line, and then the line of what is said of it was written; where
 -- that tells of a file, the file was in place before
@@ -141,7 +166,7 @@ Takes number (Ok (Some (order.Call event))) old new entries is_stored before aft
 Takes number (Ok (Some (order.Word word))) old new entries is_stored before after =
     TakesWord word old new entries is_stored before after
 Takes number (Err why) old new entries is_stored before after =
-    (new ≡ old) × WritesBad number before after
+    (new ≡ old) × WritesBad number why before after
 
 -- the same, but its answer was not written, or not all of it
 abbrev pub LeavesTaken : ℕ → Result (Option Order) LineTrouble → EngineState → EngineState
@@ -152,14 +177,14 @@ LeavesTaken number (Ok (Some (order.Call event))) old new entries is_stored befo
 LeavesTaken number (Ok (Some (order.Word word))) old new entries is_stored before after fault =
     LeavesWord word old new entries is_stored before after fault
 LeavesTaken number (Err why) old new entries is_stored before after fault =
-    (new ≡ old) × LeavesBad number before after fault
+    (new ≡ old) × LeavesBad number why before after fault
 
 -- ---- all lines
 
 -- these lines were taken one after another, and these calls of the engine were made for them, with
--- these replies: of each call that a line says, what is said of its replies was written, so was what
--- is told of each word, of a line that says nothing nothing, and of each one that is neither, that it
--- is none
+-- these replies: of each call that a line says, what is said of its replies was written, so was
+-- what is told of each word, of a line that says nothing nothing, and of each one that is neither,
+-- that it is none
 pub data Tells (before : Option (List ℕ))
     : List Line → List Event → List (Result Answer Refusal) → Option (List ℕ) → Type 0 where
   nothing_told : Tells before [] [] [] before
@@ -182,7 +207,7 @@ pub data Tells (before : Option (List ℕ))
   bad_told : (lines : List Line) (events : List Event) (replies : List (Result Answer Refusal))
       (text after : Option (List ℕ)) (line : Line) (why : LineTrouble)
       → Tells before lines events replies text → LineSays line (Err why)
-      → WritesBad (1 + length lines) text after
+      → WritesBad (1 + length lines) why text after
       → Tells before (lines ++ line ∷ []) events replies after
 
 -- the engine ran by the calls of the lines that were taken, and its replies were told
@@ -214,7 +239,7 @@ pub data LeavesLast (line : Line) (number : ℕ) (old new : EngineState)
       → MakesWord word old told new → LeavesLine before after (text_of told) fault
       → LeavesLast line number old new before after fault
   bad_not_told : (why : LineTrouble) → LineSays line (Err why) → new ≡ old
-      → LeavesBad number before after fault
+      → LeavesBad number why before after fault
       → LeavesLast line number old new before after fault
 
 -- behind the first lines of an input the next one was left, or it was not read
@@ -247,6 +272,13 @@ pub data ServesLines (first : List ℕ) (input : Option (List ℕ)) (old new : E
   not_begun : (fault : ServeFault) → new ≡ old → LeavesLine before after first fault
       → ServesLines first input old new before after
 
+-- the first line was written, and then all lines of an input were taken
+pub record ServesAllLines (first : List ℕ) (input : Option (List ℕ)) (old new : EngineState)
+    (before after : Option (List ℕ)) : Type 0 where
+  pub told : Option (List ℕ)
+  pub begun : Appends before told first
+  pub served : ServesAll input old new told after
+
 -- an engine ran by the calls of the lines of such an input, and that was written; and then the log
 -- was forced and pages were written, and no other call was made
 pub record LivesByLines (first : List ℕ) (input : Option (List ℕ)) (old new : EngineState)
@@ -254,3 +286,10 @@ pub record LivesByLines (first : List ℕ) (input : Option (List ℕ)) (old new 
   pub end : EngineState
   pub served : ServesLines first input old end before after
   pub closed : RunsBy IsOfClosing IsAnyReply end new
+
+-- it ran by the calls of all lines of that input, and then it was closed well
+pub record LivesByAllLines (first : List ℕ) (input : Option (List ℕ)) (old new : EngineState)
+    (before after : Option (List ℕ)) : Type 0 where
+  pub end : EngineState
+  pub served : ServesAllLines first input old end before after
+  pub closed : ClosesWell end new

@@ -1,11 +1,15 @@
 -- The calls of the engine by which one word makes a whole image copy.
-use Rattle.std.specs.Prelude.{ℕ, ◌≢◌, ◌+◌, List, [], ◌∷◌, ◌++◌, Option, Result, Ok, Err}
+use Rattle.std.specs.Prelude.{ℕ, ◌≡◌, ◌≢◌, ◌+◌, List, [], ◌∷◌, ◌++◌, Option, Some, Result, Ok, Err}
 use Rattle.engine_calls.specs.declared.event.Answer.{Answer}
 use Rattle.engine_calls.specs.declared.event.Answer.TheVariants as answer
 use Rattle.engine_calls.specs.declared.event.Event.{Event}
 use Rattle.engine_calls.specs.declared.event.Event.TheVariants.{DropCopy, Repair, Seal, Take}
 use Rattle.engine_calls.specs.declared.refusal.Refusal.{Refusal}
 use Rattle.engine_calls.specs.declared.refusal.Refusal.TheVariants.{StoreFault}
+use Rattle.engine_rules.specs.EngineState.{EngineState, end}
+use Rattle.fuzzy_ckpt.specs.declared.point.Point.{Point}
+use Rattle.log_records.specs.Coverage.{dirty, next_dirty}
+use Rattle.log_records.specs.declared.limits.TheConstants.{RECORD_BYTES}
 use Rattle.saved_files.specs.declared.file_fault.FileFault.{FileFault}
 use Rattle.open_database.specs.Calls.{SaysOf, copy_call}
 use Rattle.open_database.specs.declared.said.Said.{Said}
@@ -51,8 +55,8 @@ pub data DropsCopy (id : ℕ) (why : Refusal)
       (reply : Result Answer Refusal) → RefusesPages id why events replies
       → DropsCopy id why (events ++ DropCopy id ∷ []) (replies ++ reply ∷ [])
 
--- a copy that took so many pages was made complete, and it is told what the engine answered, or that
--- its file is not in place; or that was refused, and it was dropped
+-- a copy that took so many pages was made complete, and it is told what the engine answered, or
+-- that its file is not in place; or that was refused, and it was dropped
 pub data SealsCopy (id pages : ℕ)
     : List Event → List (Result Answer Refusal) → WordSaid → Type 0 where
   sealed_well : (taken : ℕ) → SealsCopy id pages (Seal id ∷ []) (Ok (answer.Sealed taken) ∷ [])
@@ -62,6 +66,24 @@ pub data SealsCopy (id pages : ℕ)
   not_sealed : (why : Refusal) (reply : Result Answer Refusal)
       → SealsCopy id pages (Seal id ∷ DropCopy id ∷ []) (Err why ∷ reply ∷ [])
       (Call (Reply (Err why)))
+
+-- the log ends with the record of the last complete checkpoint, from whose begin redo goes, and no
+-- page is dirty
+pub record IsPointNew (s : EngineState) : Type 0 where
+  pub point : Point
+  pub is_master : s.master ≡ Some point
+  pub last : end s ≡ point.end + RECORD_BYTES
+  pub from_begin : point.redo ≡ point.begin
+  pub clean : next_dirty (dirty s.log s.written) 0 ≡ []
+
+-- the last of these calls made the copy of this id complete
+pub record EndsBySeal (id : ℕ) (events : List Event) (replies : List (Result Answer Refusal))
+    : Type 0 where
+  pub before : List Event
+  pub calls : events ≡ before ++ Seal id ∷ []
+  pub given : List (Result Answer Refusal)
+  pub answer : Answer
+  pub told : replies ≡ given ++ Ok answer ∷ []
 
 -- a copy took its pages, and was made complete then; or it did not, and was dropped
 pub data FillsCopy (id : ℕ)

@@ -1,5 +1,6 @@
--- Words of an operator: how they are spelled, which calls of the engine they make, and what is told.
-use Rattle.std.specs.Prelude.{ℕ, ◌≡◌, List, [], ◌∷◌, ◌++◌, Option, Some, None, Result, Ok, Err}
+-- Words of an operator: how they are spelled, which calls of the engine they make, and what is
+-- told.
+use Rattle.std.specs.Prelude.{ℕ, ◌≡◌, ◌<◌, List, [], ◌∷◌, ◌++◌, Option, Some, None, Result, Ok, Err}
 use Rattle.std.specs.Prelude.{codes}
 use Rattle.std.specs.Fmt.{decimal}
 use Rattle.std.specs.List.{All, Contains, sum_by}
@@ -10,16 +11,19 @@ use Rattle.engine_calls.specs.declared.event.Answer.TheVariants as answer
 use Rattle.engine_calls.specs.declared.event.Event.{Event}
 use Rattle.engine_calls.specs.declared.event.Event.TheVariants.{CkptBegin, CkptEnd, CkptGather}
 use Rattle.engine_calls.specs.declared.refusal.Refusal.{Refusal}
+use Rattle.engine_calls.specs.declared.refusal.Refusal.TheVariants.{CkptOpen}
 use Rattle.engine_rules.specs.EngineState.{EngineState}
 use Rattle.engine_rules.specs.Run.{Run}
 use Rattle.event_script.specs.Words.{number_of}
 use Rattle.open_database.specs.Calls.{IsNoFault, IsOfClosing}
 use Rattle.open_database.specs.Said.{IsAnswer, IsAnswerOr, line_of_said}
 use Rattle.open_database.specs.WordCopies.{BeginsAndFills}
+use Rattle.open_database.specs.declared.help.TheConstants.{HELP}
 use Rattle.open_database.specs.declared.said.Said.{Said}
 use Rattle.open_database.specs.declared.said.Said.TheVariants.{Reply}
 use Rattle.open_database.specs.declared.word.Word.{Word}
-use Rattle.open_database.specs.declared.word.Word.TheVariants.{Checkpoint, Copy, Flush, Help, Status}
+use Rattle.open_database.specs.declared.word.Word.TheVariants.{Checkpoint, Copy, Flush, Help}
+use Rattle.open_database.specs.declared.word.Word.TheVariants.{Status}
 use Rattle.open_database.specs.declared.word_said.WordSaid.{WordSaid}
 use Rattle.open_database.specs.declared.word_said.WordSaid.TheVariants.{Call, Copied, Flushed}
 
@@ -31,7 +35,8 @@ IsSpelled text Checkpoint = text ≡ codes "checkpoint"
 IsSpelled text Flush = text ≡ codes "flush"
 IsSpelled text (Copy None) = text ≡ codes "copy"
 IsSpelled text (Copy (Some parent)) =
-    (digits : List ℕ) × (text ≡ codes "copy on " ++ digits) × (number_of digits ≡ Some parent)
+    (digits : List ℕ) × (text ≡ codes "copy on " ++ digits)
+    × (number_of digits ≡ Some parent) × (parent < 4294967296)
 IsSpelled text Status = text ≡ codes "status"
 IsSpelled text Help = text ≡ codes "help"
 
@@ -43,11 +48,20 @@ SpellsText line text = IsTrimAscii line text
 abbrev pub Spells : List ℕ → Word → Type 0
 Spells line word = (text : List ℕ) × SpellsText line text × IsSpelled text word
 
+-- a line spells no word
+abbrev pub IsNoWord : List ℕ → Type 0
+IsNoWord line = (word : Word) → ¬ Spells line word
+
 -- the first words of those
 abbrev pub first_words : List (List ℕ)
 first_words =
     codes "checkpoint" ∷ codes "flush" ∷ codes "copy" ∷ codes "status" ∷ codes "help"
     ∷ codes "quit" ∷ []
+
+-- a text is this, or begins with it and a space
+pub data HasFirstWord : List ℕ → List ℕ → Type 0 where
+  alone : (first : List ℕ) → HasFirstWord first first
+  goes_on : (first rest : List ℕ) → HasFirstWord (first ++ 32 ∷ rest) first
 
 -- a line begins as a word does
 pub record BeginsAsWord (line : List ℕ) : Type 0 where
@@ -55,8 +69,7 @@ pub record BeginsAsWord (line : List ℕ) : Type 0 where
   pub spelled : SpellsText line text
   pub first : List ℕ
   pub is_first : Contains first_words first
-  pub rest : List ℕ
-  pub begins : text ≡ first ++ rest
+  pub begins : HasFirstWord text first
 
 -- ---- what is told
 
@@ -121,10 +134,12 @@ pub data GatherSteps : List Event → List (Result Answer Refusal) → Type 0 wh
       → GatherSteps events replies
       → GatherSteps (events ++ CkptGather ∷ []) (replies ++ Ok answer ∷ [])
 
--- a checkpoint was begun, and gathered step by step
+-- a checkpoint was begun, or one was open, and it was gathered step by step
 pub data Gathers : List Event → List (Result Answer Refusal) → Type 0 where
   begins : (answer : Answer) (events : List Event) (replies : List (Result Answer Refusal))
       → GatherSteps events replies → Gathers (CkptBegin ∷ events) (Ok answer ∷ replies)
+  goes_on : (events : List Event) (replies : List (Result Answer Refusal))
+      → GatherSteps events replies → Gathers (CkptBegin ∷ events) (Err CkptOpen ∷ replies)
 
 -- pages were written, and then a checkpoint was begun and gathered
 pub data GathersAll : List Event → List (Result Answer Refusal) → Type 0 where
@@ -132,18 +147,23 @@ pub data GathersAll : List Event → List (Result Answer Refusal) → Type 0 whe
       (count : ℕ) → WritesPages count writes written → Gathers steps given
       → GathersAll (writes ++ steps) (written ++ given)
 
--- what is said of the reply to a call that makes a file: that reply, or that the file is not in place
+-- what is said of the reply to a call that makes a file: that reply, or that the file is not in
+-- place
 abbrev pub IsSaidOnce : Result Answer Refusal → Said → Type 0
 IsSaidOnce (Ok answer) said = IsAnswerOr answer said
 IsSaidOnce (Err why) said = said ≡ Reply (Err why)
 
 -- ---- what a word does
 
--- a word tells of the database alone, or of the words
-abbrev pub IsTelling : Word → Type 0
-IsTelling Status = Unit {0}
-IsTelling Help = Unit {0}
-IsTelling other = ⊥
+-- the last line of what is told of the database says that it is the last one
+abbrev pub IsStatus : List ℕ → Type 0
+IsStatus text = (before : List ℕ) × (text ≡ before ++ codes "status end\n")
+
+-- a word tells this of the database alone, or of the words
+abbrev pub IsTelling : Word → List ℕ → Type 0
+IsTelling Status text = IsStatus text
+IsTelling Help text = text ≡ HELP.now
+IsTelling other text = ⊥
 
 -- the engine made these calls for a word, and gave these replies; of that, this is told
 pub data SaysOfWord : Word → List Event → List (Result Answer Refusal) → Told → Type 0 where
@@ -177,7 +197,7 @@ pub data SaysOfWord : Word → List Event → List (Result Answer Refusal) → T
       (said : Said) → SaysOfWord Checkpoint events replies (one_line (Call said)) → ¬ IsAnswer said
       → SaysOfWord (Copy parent) events replies (one_line (Call said))
   -- no call was made
-  telling : (word : Word) (text : List ℕ) → IsTelling word → SaysOfWord word [] [] (lines text)
+  telling : (word : Word) (text : List ℕ) → IsTelling word text → SaysOfWord word [] [] (lines text)
 
 -- the engine made calls for a word, and this is told of them
 abbrev pub MakesWord : Word → EngineState → Told → EngineState → Type 0

@@ -89,7 +89,7 @@ fn backed_up<F: DatabaseFolder, S: PageStore, D: LogDevice + TellsWhy>(
 {
     let on = parent_for(call, session.engine.copies());
     let notes = Notes::new();
-    let copied = checkpoint_and_copy(session, on, &mut output(rt, &notes));
+    let copied = checkpoint_and_copy(session, on, &mut output(rt, &notes), &notes);
     session.close(kept);
     match copied {
         Some(id) if !session.has_failed => put_into(rt, session, kept, id, call),
@@ -122,13 +122,27 @@ fn put_into<F: DatabaseFolder, S: PageStore, D: LogDevice>(
     let notes = Notes::new();
     let teller = Teller::new(rt, into);
     let mut folder = SystemDatabase::new(rt, into, (&notes, &notes));
-    match put_chain(&teller, session, kept, id, &mut folder) {
+    match put_locked(&teller, session, kept, id, &mut folder) {
         Ok(()) => OpenEnd::Well,
         Err(fault) => {
             teller.tell_fault(&fault, &notes);
             OpenEnd::Failed
         }
     }
+}
+
+/// Puts them into a second folder that no one has open. Its log may be open by another name, of
+/// another folder: so that is locked as well, before anything there is replaced.
+fn put_locked<F: DatabaseFolder, G: DatabaseFolder, S: PageStore, D: LogDevice>(
+    teller: &Teller<'_>,
+    session: &Session<'_, F, S, D>,
+    kept: &KeptManifest,
+    id: u32,
+    folder: &mut G,
+) -> Result<(), OpenFault> {
+    folder.claim_or_wait()?;
+    let _log = folder.open_log(false)?;
+    put_chain(teller, session, kept, id, folder)
 }
 
 /// Puts the log, the master record and the chain of a copy into a second folder.

@@ -28,6 +28,10 @@ pub(crate) struct BadCall<'a> {
 }
 
 impl fmt::Display for BadCall<'_> {
+    ghost use Rattle.open_database.specs.Session.{words_for};
+
+    ghost output = { λ bad. words_for bad.why };
+
     fn fmt<W: fmt::Write>(&self, f: &mut fmt::Formatter<W>) -> fmt::Result {
         match self.why {
             LineTrouble::Bad(why) => {

@@ -5,9 +5,12 @@ ghost use Rattle.buffer_pool.specs.Pool.{IsFrameCount};
 ghost use Rattle.log_records.specs.Log.{IsPageCount};
 ghost use Rattle.engine_rules.specs.EngineState.{new_state};
 ghost use Rattle.page_core.specs.Volume.{formatted_pages};
+ghost use Rattle.saved_files.specs.Folder.{Changes, KeepsOthers};
+ghost use Rattle.open_database.specs.Standing.{KeepsFiles};
 
 use crate::change_fault::ChangeFault;
 use crate::database_folder::DatabaseFolder;
+use crate::names::{LOG, VOLUME};
 use crate::place::Place;
 use crate::volume_file::volume_of;
 use aries_core::{Engine, PlayFault, Setup};
@@ -28,6 +31,7 @@ pub(crate) fn begin<F: DatabaseFolder>(
     requires frames { IsFrameCount setup.frames }
     requires claimed { F.is_claimed folder.old }
     ensures new { IfOk result (λ it. it.state ≡ new_state setup.pages setup.frames) }
+    ensures kept { Changes KeepsFiles (F.entries folder.old) (F.entries folder.new) }
     ensures stored { OnOk result (F.is_stored folder.new) }
     ensures claimed { F.is_claimed folder.new }
 {
@@ -44,7 +48,11 @@ fn new_volume<F: DatabaseFolder>(
 ) -> Result<F::Volume, ChangeFault>
     requires pages { IsPageCount pages }
     requires claimed { F.is_claimed folder.old }
+    // The name of the log lasts.
+    requires stored { F.is_stored folder.old }
     ensures formatted { IfOk result (λ it. F.Volume.stored it ≡ formatted_pages pages) }
+    ensures others { Changes (KeepsOthers VOLUME.now)
+        (F.entries folder.old) (F.entries folder.new) }
     ensures stored { OnOk result (F.is_stored folder.new) }
     ensures claimed { F.is_claimed folder.new }
 {
@@ -88,6 +96,8 @@ pub(crate) fn code_of(error: Option<io::Error>) -> Option<i32> {
 /// that was killed before its name lasted.
 fn log_at<F: DatabaseFolder>(folder: &mut F, log: Option<F::Log>) -> Result<F::Log, ChangeFault>
     requires { F.is_claimed folder.old }
+    ensures others { Changes (KeepsOthers LOG.now)
+        (F.entries folder.old) (F.entries folder.new) }
     ensures stored { OnOk result (F.is_stored folder.new) }
     ensures claimed { F.is_claimed folder.new }
 {

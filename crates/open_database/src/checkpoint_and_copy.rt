@@ -1,7 +1,9 @@
 //! A checkpoint and a copy that a command has an open database make.
 
 ghost use Rattle.std.specs.Prelude.{◌≡◌, IfSome, IsTrue};
-ghost use Rattle.open_database.specs.Backups.{CopiesBehindPoint, IsCopyPut, IsToldWell};
+ghost use Rattle.std.specs.Io.KnownBytes.{Appends};
+ghost use Rattle.open_database.specs.Backups.{CopiesBehindPoint, IsCopyPut, IsToldWell, TellsCopy};
+ghost use Rattle.open_database.specs.Words.{one_line, text_of};
 
 use crate::database_folder::DatabaseFolder;
 use crate::session::{Session, TellsWhy};
@@ -9,7 +11,7 @@ use crate::word_said::{WordSaid, write_word};
 use log_store::LogDevice;
 use page_store::PageStore;
 use std::io::Write;
-use system_files::{Noted, Notes};
+use system_files::Notes;
 
 /// Makes a checkpoint and then a copy, on this one or a full one, and writes what is said of each.
 /// Answers the id of the copy, if both were made and written; what went wrong was told.
@@ -18,39 +20,44 @@ pub(crate) fn checkpoint_and_copy<
     S: PageStore,
     D: LogDevice + TellsWhy,
     W: Write,
->(session: &mut Session<'_, F, S, D>, on: Option<u32>, output: &mut Noted<'_, W>) -> Option<u32>
+>(session: &mut Session<'_, F, S, D>, on: Option<u32>, output: &mut W, notes: &Notes) -> Option<u32>
     requires { F.is_claimed session.old.folder }
     ensures made { IfSome result (λ id.
         CopiesBehindPoint on id session.old.engine.state session.new.engine.state) }
     ensures in_place { IfSome result (λ id.
         IsCopyPut id session.new.engine.state (F.entries session.new.folder)) }
     ensures stored { IfSome result (λ _. F.is_stored session.new.folder) }
+    ensures told { IfSome result (λ id.
+        TellsCopy id (W.contents output.old) (W.contents output.new)) }
     ensures claimed { F.is_claimed session.new.folder }
 {
     let point = session.checkpoint();
-    if !is_told(session, &WordSaid::Call(point), output) {
+    if !is_told(session, &WordSaid::Call(point), output, notes) {
         return None;
     }
     let copied = session.copy(on);
-    if !is_told(session, &copied, output) {
+    if !is_told(session, &copied, output, notes) {
         return None;
     }
     copied.copied()
 }
 
-/// Tells a person what went wrong, and writes what is said. Says whether that is no refusal, and was
-/// written.
+/// Tells a person what went wrong, and writes what is said. Says whether that is no refusal, and
+/// was written.
 fn is_told<F: DatabaseFolder, S: PageStore, D: LogDevice + TellsWhy, W: Write>(
     session: &mut Session<'_, F, S, D>,
     said: &WordSaid,
-    output: &mut Noted<'_, W>,
+    output: &mut W,
+    notes: &Notes,
 ) -> bool
     ensures well { IsTrue result → IsToldWell said.now }
+    ensures written { IsTrue result → Appends (W.contents output.old) (W.contents output.new)
+        (text_of (one_line said.now)) }
     ensures engine { session.new.engine ≡ session.old.engine }
     ensures folder { session.new.folder ≡ session.old.folder }
 {
     let is_well = is_well(session, said);
-    is_written(session, said, output) && is_well
+    is_written(session, said, output, notes) && is_well
 }
 
 /// Whether nothing was refused. What was is told.
@@ -78,8 +85,11 @@ fn is_well<F: DatabaseFolder, S: PageStore, D: LogDevice + TellsWhy>(
 fn is_written<F: DatabaseFolder, S: PageStore, D: LogDevice + TellsWhy, W: Write>(
     session: &mut Session<'_, F, S, D>,
     said: &WordSaid,
-    output: &mut Noted<'_, W>,
+    output: &mut W,
+    notes: &Notes,
 ) -> bool
+    ensures written { IsTrue result → Appends (W.contents output.old) (W.contents output.new)
+        (text_of (one_line said.now)) }
     ensures engine { session.new.engine ≡ session.old.engine }
     ensures folder { session.new.folder ≡ session.old.folder }
 {
@@ -87,9 +97,7 @@ fn is_written<F: DatabaseFolder, S: PageStore, D: LogDevice + TellsWhy, W: Write
         Ok(()) => true,
         Err(fault) => {
             session.has_failed = true;
-            session
-                .teller
-                .tell_ended(&fault, &Notes::new(), output.notes);
+            session.teller.tell_ended(&fault, &Notes::new(), notes);
             false
         }
     }

@@ -3,7 +3,7 @@
 ghost use Rattle.std.specs.Prelude.{◌≡◌, ◌++◌, [], ◌∷◌, IfOk, OnOk, decimal};
 ghost use Rattle.std.specs.Io.KnownBytes.{Appends};
 ghost use Rattle.saved_files.specs.FileFault.{Leaves};
-ghost use Rattle.saved_files.specs.Folder.{Changes, IsRemoved};
+ghost use Rattle.saved_files.specs.Folder.{Changes, IsRemoved, KeepsOthers};
 ghost use Rattle.open_database.specs.Closed.{SpellsNote, note_of};
 ghost use Rattle.open_database.specs.Found.{IsFoundIn, IsReadOf};
 
@@ -77,6 +77,8 @@ pub(crate) fn remove_note<F: DatabaseFolder>(folder: &mut F) -> Result<(), Chang
     ensures stored { OnOk result (F.is_stored folder.new) }
     ensures removed { OnOk result
         (Changes (IsRemoved CLOSED.now) (F.entries folder.old) (F.entries folder.new)) }
+    ensures others { Changes (KeepsOthers CLOSED.now)
+        (F.entries folder.old) (F.entries folder.new) }
     ensures claimed { F.is_claimed folder.new }
 {
     match folder.remove(CLOSED) {

@@ -10,15 +10,16 @@ use crate::database_folder::DatabaseFolder;
 use crate::fault::OpenFault;
 use crate::inventory::Inventory;
 use crate::log_file::bytes_of;
-use crate::restarted::{Others, find_others, is_vouched, loss_of};
+use crate::made_ready::is_vouched;
+use crate::restarted::{Others, find_others, loss_of};
 use crate::told::Teller;
 use engine_restart::{committed_pages, log_in};
 use log_front::Front;
 use page_core::Page;
 use std::alloc::Global;
 
-/// The pages of the closed database in a folder that is claimed, in order of their numbers, each slot
-/// with its committed number. Nothing is changed there.
+/// The pages of the closed database in a folder that is claimed, in order of their numbers, each
+/// slot with its committed number. Nothing is changed there.
 ///
 /// A database is closed where the note of its closing says where its log ends, and nothing that
 /// stands beside it knows of more.
@@ -26,6 +27,7 @@ pub(crate) fn read_closed<F: DatabaseFolder>(
     teller: &Teller<'_>,
     folder: &F,
 ) -> Result<Vec<Page>, OpenFault>
+    requires { F.is_claimed folder.now }
     ensures { IfOk result (λ pages. IsOfClosed pages.items) }
 {
     let alloc = teller.alloc;
@@ -41,8 +43,8 @@ pub(crate) fn read_closed<F: DatabaseFolder>(
     volume_in(alloc, &bytes, &others)
 }
 
-/// The pages that the log in these bytes leaves, where that is all of them, and what stands beside it
-/// vouches for its end.
+/// The pages that the log in these bytes leaves, where that is all of them, and what stands beside
+/// it vouches for its end.
 fn volume_in(alloc: Global, bytes: &[u8], others: &Others) -> Result<Vec<Page>, OpenFault>
     ensures { IfOk result (λ pages. IsLeftBy bytes.now others.now.note others.now.manifest
         (spelled others.now.master) others.now.copies.items pages.items) }

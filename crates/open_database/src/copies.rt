@@ -16,10 +16,10 @@ use engine_restart::{AddCopyFault, Restarted};
 use page_core::Lsn;
 use std::alloc::{AllocError, Global};
 
-/// Takes up these copies, whose ids rise, each once it is audited against the log. Why one is not is
-/// told, and its file stays where it is. One that knows of more than the log had, which ended there
-/// before anything was taken back, is none of them: its file was moved aside. Answers the ids of those
-/// that could not be read: they are not given again.
+/// Takes up these copies, whose ids rise, each once it is audited against the log. Why one is not
+/// is told, and its file stays where it is. One that knows of more than the log had, which ended
+/// there before anything was taken back, is none of them: its file was moved aside. Answers the ids
+/// of those that could not be read: they are not given again.
 pub(crate) fn take_up(
     teller: &Teller<'_>,
     restarted: &mut Restarted,

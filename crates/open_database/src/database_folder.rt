@@ -1,7 +1,8 @@
 //! The folder of a database.
 
-ghost use Rattle.std.specs.Prelude.{ℕ, ◌≡◌, [], IfOk, List, OnErr, OnOk, Option, Some, length};
-ghost use Rattle.std.specs.Prelude.{map, string_bytes};
+ghost use Rattle.std.specs.Prelude.{ℕ, ◌≡◌, [], IfOk, IfSome, List, OnErr, OnOk, Option, Some};
+ghost use Rattle.std.specs.Prelude.{codes};
+ghost use Rattle.std.specs.Prelude.{length, map, string_bytes};
 ghost use Rattle.file_devices.specs.FileLog.{bytes_of};
 ghost use Rattle.saved_files.specs.Folder.{Changes, IsRemoved, IsSame, KeepsOthers};
 
@@ -58,7 +59,8 @@ impl From<io::Error> for VolumeFault {
 
 /// A folder in which the files of a database stand.
 pub trait DatabaseFolder: Folder {
-    ghost use Rattle.open_database.specs.DatabaseFolder.{AreFirstOf, ListsAll, Opens, OpensLog, Tells};
+    ghost use Rattle.open_database.specs.DatabaseFolder.{AreFirstOf, BeginsIn, ListsAll, Opens};
+    ghost use Rattle.open_database.specs.DatabaseFolder.{OpensLog, Tells};
 
     /// A file that is open to be read.
     type Reader: Read + Drop;
@@ -110,15 +112,17 @@ pub trait DatabaseFolder: Folder {
             (Self.entries self.old) (Self.entries self.new)) }
         ensures claimed { Self.is_claimed self.new };
 
-    /// Opens the file of the log, if it is there, and locks it: a log that has two names, by a link,
-    /// is open once. It is told whether the file is written.
+    /// Opens the file of the log, if it is there, and locks it: a log that has two names, by a
+    /// link, is open once. It is told whether the file is written.
     fn open_log(&self, writes: bool) -> Result<Option<LogFile<Self::Log>>, LogFault>
         ensures { IfOk result (OpensLog (Self.entries self.now) held) };
 
     /// Makes the file of a new log, and locks it. Its name need not last yet.
     fn make_log(&mut self) -> Result<Self::Log, LogFault>
         requires { Self.is_claimed self.old }
-        ensures { Self.is_claimed self.new };
+        ensures others { Changes (KeepsOthers (codes "log"))
+            (Self.entries self.old) (Self.entries self.new) }
+        ensures claimed { Self.is_claimed self.new };
 
     /// Fills the buffer with the first bytes of the file of a log.
     fn log_begins(log: &Self::Log, bytes: &mut [u8]) -> io::Result<()>
@@ -129,8 +133,8 @@ pub trait DatabaseFolder: Folder {
     fn emptied(alloc: Global, log: Self::Log) -> io::Result<FileLog<Self::LogDisk>>
         ensures { IfOk result (λ device. bytes_of device ≡ []) };
 
-    /// A log's device on its file, which has a log already. It fills the buffer with the first bytes
-    /// of the file, and waits until they last.
+    /// A log's device on its file, which has a log already. It fills the buffer with the first
+    /// bytes of the file, and waits until they last.
     fn resumed(
         alloc: Global,
         log: Self::Log,
@@ -143,12 +147,16 @@ pub trait DatabaseFolder: Folder {
 
     /// The first bytes of the file of the volume, as many as the buffer has room for, and how many
     /// these are. A link is no file here.
-    fn volume_begins(&self, bytes: &mut [u8]) -> io::Result<Standing<usize>>;
+    fn volume_begins(&self, bytes: &mut [u8]) -> io::Result<Standing<usize>>
+        ensures { IfOk result (λ it. IfSome (Self.entries self.now) (λ there.
+            BeginsIn it bytes.new (there (codes "volume")))) };
 
     /// Makes a volume of these pages. What its file had is gone, and its name need not last yet.
     fn make_volume(&mut self, pages: MemStore) -> Result<Self::Volume, VolumeFault>
         requires { Self.is_claimed self.old }
         ensures pages { IfOk result (λ volume. Self.Volume.stored volume ≡ pages) }
+        ensures others { Changes (KeepsOthers (codes "volume"))
+            (Self.entries self.old) (Self.entries self.new) }
         ensures claimed { Self.is_claimed self.new };
 
     /// How many bytes a file may have, where that is less than the longest log has.

@@ -1,10 +1,10 @@
 //! The clean end of an open database.
 
-ghost use Rattle.std.specs.Prelude.{◌≡◌, OnOk};
+ghost use Rattle.std.specs.Prelude.{◌≡◌, false, OnOk, true};
 ghost use Rattle.std.specs.Io.KnownBytes.{Appends};
 ghost use Rattle.saved_files.specs.PutFault.{bytes_by};
 ghost use Rattle.open_database.specs.Calls.{IsAnyReply, IsNoFault, IsOfClosing, RunsBy};
-ghost use Rattle.open_database.specs.Closed.{IsClosed, note_of};
+ghost use Rattle.open_database.specs.Closed.{ClosesWell, IsClosed, IsNoted, note_of};
 ghost use Rattle.open_database.specs.MadeFiles.{HasFile};
 
 use crate::closed_note::ClosedNote;
@@ -21,14 +21,22 @@ use page_store::PageStore;
 use saved_files::{FileFault, PutFault, put_in_place};
 
 impl<F: DatabaseFolder, S: PageStore, D: LogDevice + TellsWhy> Session<'_, F, S, D> {
-    /// Forces the log, writes each dirty page, names all of the log in the manifest, and notes where it
-    /// ends. What fails is told, and then nothing is noted.
+    /// Forces the log, writes each dirty page, names all of the log in the manifest, and notes
+    /// where it ends. What fails is told, and then nothing is noted.
     pub(crate) fn close(&mut self, kept: &mut KeptManifest)
         requires { F.is_claimed self.old.folder }
         ensures ran { RunsBy IsOfClosing IsAnyReply self.old.engine.state self.new.engine.state }
         // The folder is left alone, but where no file failed, and all of the log is forced.
         ensures noted { IsClosed self.old.engine.state self.new.engine.state
             (self.new.folder ≡ self.old.folder) }
+        // Where nothing failed, it was closed well, and the note of that lasts.
+        ensures well { self.new.has_failed ≡ false
+            → ClosesWell self.old.engine.state self.new.engine.state }
+        ensures note { self.new.has_failed ≡ false
+            → IsNoted self.new.engine.state (F.entries self.new.folder) }
+        ensures stored { self.new.has_failed ≡ false → F.is_stored self.new.folder }
+        // What failed before is not forgotten.
+        ensures stays { self.new.has_failed ≡ false → self.old.has_failed ≡ false }
     {
         if let Err(why) = self.settle() {
             self.tell_unclosed(why);
@@ -36,6 +44,7 @@ impl<F: DatabaseFolder, S: PageStore, D: LogDevice + TellsWhy> Session<'_, F, S,
         }
         let end = self.engine.log_end();
         if self.engine.log().forced_end() != end {
+            self.tell_unclosed(Refusal::LogFault);
             return;
         }
         self.keep_last(kept);
@@ -51,6 +60,7 @@ impl<F: DatabaseFolder, S: PageStore, D: LogDevice + TellsWhy> Session<'_, F, S,
         ensures well { OnOk result
             (RunsBy IsOfClosing IsNoFault self.old.engine.state self.new.engine.state) }
         ensures folder { self.new.folder ≡ self.old.folder }
+        ensures failed { self.new.has_failed ≡ self.old.has_failed }
     {
         self.engine.force()?;
         match write_pages(&mut self.engine) {
@@ -62,6 +72,7 @@ impl<F: DatabaseFolder, S: PageStore, D: LogDevice + TellsWhy> Session<'_, F, S,
     fn tell_unclosed(&mut self, why: Refusal)
         ensures engine { self.new.engine ≡ self.old.engine }
         ensures folder { self.new.folder ≡ self.old.folder }
+        ensures failed { self.new.has_failed ≡ true }
     {
         let said = crate::said::Said::Reply(Err(why));
         self.has_failed = true;
@@ -76,6 +87,7 @@ impl<F: DatabaseFolder, S: PageStore, D: LogDevice + TellsWhy> Session<'_, F, S,
             (bytes_by (λ old new. Appends old new (note_of end))) (F.entries self.new.folder)) }
         ensures stored { OnOk result (F.is_stored self.new.folder) }
         ensures engine { self.new.engine ≡ self.old.engine }
+        ensures failed { self.new.has_failed ≡ self.old.has_failed }
     {
         let mut note = ClosedNote { end };
         match put_in_place(&mut self.folder, self.alloc, CLOSED, &mut note) {

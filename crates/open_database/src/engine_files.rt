@@ -5,6 +5,7 @@ ghost use Rattle.copy_vault.specs.CopyWrite.{LeavesCopy, WritesCopy};
 ghost use Rattle.std.specs.Io.KnownBytes.{Appends};
 ghost use Rattle.log_store.specs.Master.{master_bytes};
 ghost use Rattle.manifest.specs.Sums.{IsSumOf};
+ghost use Rattle.manifest.specs.declared.entry.Extent.TheVariants.{Whole};
 ghost use Rattle.open_database.specs.MadeFiles.{HasFile};
 ghost use Rattle.saved_files.specs.Folder.{Changes, LeavesWhole, Puts, PutsOrKeeps};
 ghost use Rattle.saved_files.specs.PutFault.{bytes_by};
@@ -117,8 +118,9 @@ pub(crate) fn sum_of_copy<S: PageStore, D: LogDevice>(
     engine: &Engine<S, D>,
     id: CopyId,
 ) -> Result<FileSum, FileFault>
-    ensures { IfOk result (λ it. (bytes : List ℕ)
+    ensures sum { IfOk result (λ it. (bytes : List ℕ)
         × bytes_by (WritesCopy engine.now.state.copies id) bytes × IsSumOf it.sum it.bytes bytes) }
+    ensures extent { IfOk result (λ it. it.extent ≡ Whole) }
 {
     let mut bytes = Vec::new(alloc);
     match engine.write_copy(id, &mut bytes) {
@@ -129,14 +131,16 @@ pub(crate) fn sum_of_copy<S: PageStore, D: LogDevice>(
 
 /// What is known of the file of a master record.
 pub(crate) fn sum_of_master(master: &Master) -> FileSum
-    ensures { IsSumOf result.sum result.bytes (master_bytes master.now) }
+    ensures sum { IsSumOf result.sum result.bytes (master_bytes master.now) }
+    ensures extent { result.extent ≡ Whole }
 {
     sum_of(&encode_master(master))
 }
 
 /// What is known of a file of these bytes.
 pub(crate) fn sum_of(bytes: &[u8]) -> FileSum
-    ensures { IsSumOf result.sum result.bytes bytes.now }
+    ensures sum { IsSumOf result.sum result.bytes bytes.now }
+    ensures extent { result.extent ≡ Whole }
 {
     let mut sums = Sums::new();
     sums.update(bytes);

@@ -52,8 +52,8 @@ impl fmt::Display for Witness {
     }
 }
 
-/// Whether a log that ends there has all that a copy knows of: where it began, and the change of each
-/// of its pages.
+/// Whether a log that ends there has all that a copy knows of: where it began, and the change of
+/// each of its pages.
 pub(crate) fn is_within(copy: &CompleteCopy, end: Lsn) -> bool
     ensures { IsTrue result ↔ IsWithin end copy.now }
 {
@@ -105,15 +105,17 @@ pub(crate) struct Loss {
 }
 
 impl Loss {
-    ghost use Rattle.std.specs.Prelude.{ℕ, ◌≡◌, ◌<◌, ◌≤◌, [], IfSome, OnOk};
+    ghost use Rattle.std.specs.Prelude.{ℕ, ◌≡◌, ◌<◌, ◌≤◌, [], IfOk, IfSome, OnOk};
     ghost use Rattle.std.specs.List.{All};
     ghost use Rattle.log_front.specs.Remains.{WasForced};
-    ghost use Rattle.open_database.specs.Evidence.{Hears, IsBegunIn, IsFileWithin, IsMissed};
-    ghost use Rattle.open_database.specs.Evidence.{IsWithin};
+    ghost use Rattle.open_database.specs.Evidence.{HaveSummedNamed, Hears, IsBegunIn, IsBy};
+    ghost use Rattle.open_database.specs.Evidence.{IsByManifest, IsFileWithin, IsHeard, IsOfCopy};
+    ghost use Rattle.open_database.specs.Evidence.{IsOfLongerCopy, IsWithin, NotesMissed};
+    ghost use Rattle.open_database.specs.declared.evidence.Witness.TheVariants as witness;
 
     /// Whether nothing is known to be missing.
     pub fn is_none(&self) -> bool
-        ensures { IsTrue result → self.now.claims.items ≡ [] }
+        ensures { IsTrue result ↔ (self.now.claims.items ≡ []) }
     {
         self.claims.is_empty()
     }
@@ -133,8 +135,8 @@ impl Loss {
     /// Takes note of a claim, if the log lacks what it says.
     fn note(&mut self, witness: Witness, at: Lsn) -> Result<(), AllocError>
         ensures end { self.new.end ≡ self.old.end }
-        ensures heard { OnOk result (Hears self.old.claims.items self.new.claims.items
-            (¬ IsMissed (record { witness = witness; at = at }) self.old.end)) }
+        ensures noted { OnOk result (NotesMissed self.old.end
+            (record { witness = witness; at = at }) self.old.claims.items self.new.claims.items) }
     {
         let claim = Claim { witness, at };
         if claim.is_missed(self.end) {
@@ -146,7 +148,8 @@ impl Loss {
     /// Hears the note of the last closing.
     pub fn hear_note(&mut self, note: Option<ClosedNote>) -> Result<(), AllocError>
         ensures end { self.new.end ≡ self.old.end }
-        ensures heard { OnOk result (Hears self.old.claims.items self.new.claims.items
+        ensures heard { OnOk result (Hears (IsBy witness.Closed)
+            self.old.claims.items self.new.claims.items
             (IfSome note (λ it. it.end ≤ self.old.end))) }
     {
         match note {
@@ -158,7 +161,8 @@ impl Loss {
     /// Hears the master record.
     pub fn hear_master(&mut self, master: Option<Master>) -> Result<(), AllocError>
         ensures end { self.new.end ≡ self.old.end }
-        ensures heard { OnOk result (Hears self.old.claims.items self.new.claims.items
+        ensures heard { OnOk result (Hears (IsBy witness.Master)
+            self.old.claims.items self.new.claims.items
             (IfSome master (λ it. it.end < self.old.end))) }
     {
         match master {
@@ -167,16 +171,18 @@ impl Loss {
         }
     }
 
-    /// Hears what a manifest says of the log, whose file has these bytes: it has as many as are named,
-    /// and they have the sum that is named. Answers the sum of these, if that is so.
+    /// Hears what a manifest says of the log, whose file has these bytes: it has as many as are
+    /// named, and they have the sum that is named. Answers the sum of these, if that is so.
     pub fn hear_manifest(
         &mut self,
         log: Option<FileSum>,
         bytes: &[u8],
     ) -> Result<Option<Sums>, AllocError>
         ensures end { self.new.end ≡ self.old.end }
-        ensures heard { OnOk result (Hears self.old.claims.items self.new.claims.items
+        ensures heard { OnOk result (Hears IsByManifest
+            self.old.claims.items self.new.claims.items
             (IfSome log (IsBegunIn self.old.end bytes.now))) }
+        ensures summed { IfOk result (HaveSummedNamed self.old.end bytes.now log) }
     {
         let Some(file) = log else {
             return Ok(None);
@@ -195,12 +201,16 @@ impl Loss {
     /// Hears the copies that were found.
     pub fn hear_copies(&mut self, copies: &[CopyFile]) -> Result<(), AllocError>
         ensures end { self.new.end ≡ self.old.end }
-        ensures heard { OnOk result (Hears self.old.claims.items self.new.claims.items
+        ensures heard { OnOk result (Hears (IsOfLongerCopy self.old.end copies.now)
+            self.old.claims.items self.new.claims.items
             (All (IsFileWithin self.old.end) copies.now)) }
+        // Each copy that knows of more is named by the id of its file.
+        ensures each { OnOk result
+            (All (IsHeard self.old.end self.new.claims.items) copies.now) }
     {
         for file in copies {
             if let FoundCopy::Whole(copy) = &file.found {
-                self.hear_copy(file.id.0, copy)?;
+                self.hear_copy(file.id, copy)?;
             }
         }
         Ok(())
@@ -208,17 +218,18 @@ impl Loss {
 
     /// Hears the copy that stands under the name of this id: where it began, and the first of its
     /// pages that knows of more.
-    fn hear_copy(&mut self, id: u32, copy: &CompleteCopy) -> Result<(), AllocError>
+    fn hear_copy(&mut self, id: CopyId, copy: &CompleteCopy) -> Result<(), AllocError>
         ensures end { self.new.end ≡ self.old.end }
-        ensures heard { OnOk result (Hears self.old.claims.items self.new.claims.items
+        ensures heard { OnOk result (Hears (IsOfCopy id)
+            self.old.claims.items self.new.claims.items
             (IsWithin self.old.end copy.now)) }
     {
-        self.note(Witness::Begin(CopyId(id)), copy.begin())?;
+        self.note(Witness::Begin(id), copy.begin())?;
         for number in 0..copy.pages() {
             if let Some(page) = copy.page(PageNo(number))
                 && page.lsn >= self.end
             {
-                return self.note(Witness::Page(CopyId(id), PageNo(number)), page.lsn);
+                return self.note(Witness::Page(id, PageNo(number)), page.lsn);
             }
         }
         Ok(())
@@ -227,7 +238,8 @@ impl Loss {
     /// Looks at the bytes of the log's file behind the front.
     pub fn look_behind(&mut self, bytes: &[u8]) -> Result<(), AllocError>
         ensures end { self.new.end ≡ self.old.end }
-        ensures heard { OnOk result (Hears self.old.claims.items self.new.claims.items
+        ensures heard { OnOk result (Hears (IsBy witness.Record)
+            self.old.claims.items self.new.claims.items
             ((at : ℕ) → self.old.end ≤ at → ¬ WasForced bytes.now at)) }
     {
         match forced_behind(bytes, self.end) {

@@ -16,8 +16,8 @@ use system_files::ClaimFault;
 /// The number that the system has for a file that is not there.
 pub(crate) const NO_ENTRY: i32 = 2;
 
-/// Why a database was not opened. At all of these but a fault of a change an opening has only looked
-/// at the folder.
+/// Why a database was not opened. At all of these but a fault of a change an opening has only
+/// looked at the folder.
 #[derive(Debug, Drop)]
 pub(crate) enum OpenFault {
     OutOfMemory,

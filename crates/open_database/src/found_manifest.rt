@@ -1,6 +1,6 @@
 //! The manifest, as it is found in a folder.
 
-ghost use Rattle.std.specs.Prelude.{◌≡◌, IfOk, IfSome, take};
+ghost use Rattle.std.specs.Prelude.{◌≡◌, IfOk, IfSome, None, take};
 ghost use Rattle.manifest.specs.Sums.{HasSummed};
 ghost use Rattle.open_database.specs.DatabaseFolder.{Tells};
 ghost use Rattle.open_database.specs.Evidence.{BeginsAs, log_line};
@@ -48,8 +48,9 @@ pub(crate) fn log_line(manifest: &Option<Manifest>) -> Option<FileSum>
 
 /// The sum of the bytes that a manifest names, if these begin with them.
 pub(crate) fn sums_of(file: &FileSum, bytes: &[u8]) -> Option<Sums>
-    ensures { IfSome result (λ sums. HasSummed sums (take file.now.bytes bytes.now)
+    ensures sums { IfSome result (λ sums. HasSummed sums (take file.now.bytes bytes.now)
         × BeginsAs file.now bytes.now) }
+    ensures none { result ≡ None → ¬ BeginsAs file.now bytes.now }
 {
     let first = bytes.get(..file.bytes as usize)?;
     let mut sums = Sums::new();

@@ -1,10 +1,10 @@
 //! The file of the master record, as it is found in a folder.
 
-ghost use Rattle.std.specs.Prelude.{IfOk};
+ghost use Rattle.std.specs.Prelude.{◌↔◌, IfOk, IsTrue};
 ghost use Rattle.log_store.specs.Master.{SpellsMaster};
 ghost use Rattle.open_database.specs.DatabaseFolder.{Tells};
 ghost use Rattle.open_database.specs.Found.{IsFoundIn, IsReadOf};
-ghost use Rattle.open_database.specs.Master.{spelled};
+ghost use Rattle.open_database.specs.Master.{HasCheckpointOf, spelled};
 
 use crate::database_folder::{DatabaseFolder, Standing};
 use crate::fault::OpenFault;
@@ -27,8 +27,8 @@ pub(crate) enum FoundMaster {
 }
 
 impl FoundMaster {
-    ghost use Rattle.std.specs.Prelude.{◌≡◌};
-    ghost use Rattle.open_database.specs.Master.{spelled};
+    ghost use Rattle.std.specs.Prelude.{◌≡◌, ◌↔◌, IsTrue};
+    ghost use Rattle.open_database.specs.Master.{IsOfRecords, NamesPoint, spelled};
 
     /// The master record that is spelled, if one is.
     pub fn spelled(&self) -> Option<Master>
@@ -40,9 +40,11 @@ impl FoundMaster {
         }
     }
 
-    /// Whether nothing stands there, or the record of a complete checkpoint of the log that has these
-    /// records.
-    pub fn is_of(&self, records: &[Record]) -> bool {
+    /// Whether nothing stands there, or the record of a complete checkpoint of the log that has
+    /// these records.
+    pub fn is_of(&self, records: &[Record]) -> bool
+        ensures { IsTrue result ↔ IsOfRecords records.now self.now }
+    {
         match self {
             FoundMaster::Absent => true,
             FoundMaster::Spelled(master) => has_checkpoint(records, master),
@@ -51,7 +53,9 @@ impl FoundMaster {
     }
 
     /// Whether it is the record of this checkpoint, or of none where there is none.
-    pub fn names(&self, point: Option<Point>) -> bool {
+    pub fn names(&self, point: Option<Point>) -> bool
+        ensures { IsTrue result ↔ NamesPoint (spelled self.now) point }
+    {
         match (self.spelled(), point) {
             (Some(master), Some(point)) => master.begin == point.begin && master.end == point.end,
             (None, None) => true,
@@ -61,9 +65,14 @@ impl FoundMaster {
 }
 
 /// Whether the master record names a checkpoint that is complete in the log that has these records.
-fn has_checkpoint(records: &[Record], master: &Master) -> bool {
-    let place = usize::try_from(master.end.0 / LSN_STEP).unwrap_or(0);
-    match records.get(place.wrapping_sub(1)) {
+fn has_checkpoint(records: &[Record], master: &Master) -> bool
+    ensures { IsTrue result ↔ HasCheckpointOf records.now master.now }
+{
+    if master.end.0 < LSN_STEP {
+        return false;
+    }
+    let place = master.end.0 / LSN_STEP - 1;
+    match records.get(place as usize) {
         Some(Record::EndChkpt { begin, .. }) => *begin == master.begin,
         _ => false,
     }

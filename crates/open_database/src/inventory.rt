@@ -1,5 +1,9 @@
 //! What stands in a folder before it is opened.
 
+ghost use Rattle.std.specs.Prelude.{map, string_bytes};
+ghost use Rattle.saved_files.specs.Folder.{Changes, KeepsOthers};
+ghost use Rattle.open_database.specs.Standing.{KeepsAllBut};
+
 use crate::change_fault::ChangeFault;
 use crate::database_folder::DatabaseFolder;
 use crate::fault::OpenFault;
@@ -26,13 +30,20 @@ pub(crate) struct Inventory {
 }
 
 impl Inventory {
-    ghost use Rattle.std.specs.Prelude.{ℕ, ◌++◌, [], ◌∷◌, IfOk, List, OnOk, string_bytes};
+    ghost use Rattle.std.specs.Prelude.{ℕ, ◌≡◌, ◌++◌, [], ◌∷◌, false, IfOk, List, None, OnOk};
+    ghost use Rattle.std.specs.Prelude.{string_bytes};
     ghost use Rattle.std.specs.List.{Contains};
+    ghost use Rattle.std.specs.List.Sorted.{IsNonDecreasing};
+    ghost use Rattle.saved_files.specs.Folder.{Changes};
     ghost use Rattle.open_database.specs.Found.{IsInventoryOf, TellsNames};
+    ghost use Rattle.open_database.specs.Standing.{KeepsFinished};
 
     /// Looks at a folder that is claimed.
     pub fn of<F: DatabaseFolder>(alloc: Global, folder: &F) -> Result<Inventory, OpenFault>
-        ensures { IfOk result (IsInventoryOf (F.entries folder.now)) }
+        // Nobody else puts files there meanwhile.
+        requires { F.is_claimed folder.now }
+        ensures there { IfOk result (IsInventoryOf (F.entries folder.now)) }
+        ensures rise { IfOk result (λ it. IsNonDecreasing it.copies.items) }
     {
         let mut there = Inventory {
             copies: Vec::new(alloc),
@@ -62,8 +73,11 @@ impl Inventory {
 
     /// Removes what older lives left unfinished.
     pub fn clear<F: DatabaseFolder>(&self, folder: &mut F) -> Result<(), ChangeFault>
-        requires { F.is_claimed folder.old }
-        ensures { F.is_claimed folder.new }
+        requires claimed { F.is_claimed folder.old }
+        requires inventory { IsInventoryOf (F.entries folder.old) self.now }
+        // What was whole stays as it is.
+        ensures kept { Changes KeepsFinished (F.entries folder.old) (F.entries folder.new) }
+        ensures claimed { F.is_claimed folder.new }
     {
         remove_all(folder, &self.unfinished)
     }
@@ -109,7 +123,12 @@ impl Inventory {
     /// What says that there was a log once, where there is none now. Before a log has its header
     /// there is no master record, no copy and no note of a closing, and before there is a log no
     /// volume. What a manifest says of a log is heard elsewhere.
-    pub fn widow(&self) -> Option<Place> {
+    pub fn widow(&self) -> Option<Place>
+        ensures copies { result ≡ None → self.now.copies.items ≡ [] }
+        ensures master { result ≡ None → self.now.has_master ≡ false }
+        ensures closed { result ≡ None → self.now.has_closed ≡ false }
+        ensures volume { result ≡ None → self.now.has_log ≡ false → self.now.has_volume ≡ false }
+    {
         if let Some(id) = self.copies.first() {
             return Some(Place::Copy(*id));
         }
@@ -132,14 +151,26 @@ pub(crate) fn remove_all<F: DatabaseFolder>(
     names: &[String],
 ) -> Result<(), ChangeFault>
     requires { F.is_claimed folder.old }
-    ensures { F.is_claimed folder.new }
+    ensures others { Changes (KeepsAllBut (map string_bytes names.now))
+        (F.entries folder.old) (F.entries folder.new) }
+    ensures claimed { F.is_claimed folder.new }
 {
     for name in names {
-        match folder.remove(name.as_str()) {
-            Ok(()) => {}
-            Err(error) if error.kind() == ErrorKind::IsADirectory => {}
-            Err(error) => return Err(ChangeFault::of_folder(error)),
-        }
+        remove_file(folder, name.as_str())?;
     }
     Ok(())
+}
+
+/// Removes the file of this name, if it is no folder.
+fn remove_file<F: DatabaseFolder>(folder: &mut F, name: &str) -> Result<(), ChangeFault>
+    requires { F.is_claimed folder.old }
+    ensures others { Changes (KeepsOthers name.now)
+        (F.entries folder.old) (F.entries folder.new) }
+    ensures claimed { F.is_claimed folder.new }
+{
+    match folder.remove(name) {
+        Ok(()) => Ok(()),
+        Err(error) if error.kind() == ErrorKind::IsADirectory => Ok(()),
+        Err(error) => Err(ChangeFault::of_folder(error)),
+    }
 }

@@ -1,6 +1,6 @@
 //! The manifest of an open database is put in place.
 
-ghost use Rattle.std.specs.Prelude.{ℕ, ◌≡◌, ◌≢◌, IfSome, List, None, OnOk, codes};
+ghost use Rattle.std.specs.Prelude.{ℕ, ◌≡◌, ◌≢◌, false, IfSome, List, None, OnOk, codes, true};
 ghost use Rattle.std.specs.Io.KnownBytes.{Appends};
 ghost use Rattle.copy_vault.specs.CopyWrite.{WritesCopy};
 ghost use Rattle.engine_rules.specs.EngineState.{log_of};
@@ -9,7 +9,9 @@ ghost use Rattle.manifest.specs.Text.{manifest_text};
 ghost use Rattle.saved_files.specs.PutFault.{bytes_by};
 ghost use Rattle.saved_files.specs.Saved.{name_of};
 ghost use Rattle.saved_files.specs.declared.saved_name.SavedName.TheVariants as saved;
-ghost use Rattle.open_database.specs.Kept.{HasSummedLog, Names, bytes_below};
+ghost use Rattle.open_database.specs.Backups.{NotesOnly};
+ghost use Rattle.open_database.specs.Kept.{HasSummedLog, IsManifestIn, IsNothing, KeepsOtherLines};
+ghost use Rattle.open_database.specs.Kept.{Names, bytes_below};
 ghost use Rattle.open_database.specs.MadeFiles.{HasFile, is_master};
 
 use crate::engine_files::{sum_of_copy, sum_of_master};
@@ -33,6 +35,15 @@ impl<F: Folder, S: PageStore, D: LogDevice + TellsWhy> Session<'_, F, S, D> {
     /// calls that put them are answered: where it is not written that is told.
     pub(crate) fn keep_placed(&mut self, kept: &mut KeptManifest)
         requires { F.is_claimed self.old.folder }
+        // Where that failed, it is told. Else it names the copy that was put in place.
+        ensures named { self.new.has_failed ≡ false → IfSome self.old.placed.copy (λ id.
+            IsManifestIn (F.entries self.new.folder) kept.new.manifest
+            × Names kept.new.manifest.entries (name_of (saved.Copy id))
+            (bytes_by (WritesCopy self.old.engine.state.copies id))) }
+        ensures nothing { IsNothing self.new.placed }
+        ensures due { kept.new.is_due ≡ false }
+        // What failed before is not forgotten.
+        ensures stays { self.new.has_failed ≡ false → self.old.has_failed ≡ false }
         ensures engine { self.new.engine ≡ self.old.engine }
         ensures claimed { F.is_claimed self.new.folder }
     {
@@ -44,6 +55,13 @@ impl<F: Folder, S: PageStore, D: LogDevice + TellsWhy> Session<'_, F, S, D> {
     /// Puts the manifest in place, if it is other than what stands there.
     pub(crate) fn keep_last(&mut self, kept: &mut KeptManifest)
         requires { F.is_claimed self.old.folder }
+        ensures named { self.new.has_failed ≡ false → IfSome self.old.placed.copy (λ id.
+            IsManifestIn (F.entries self.new.folder) kept.new.manifest
+            × Names kept.new.manifest.entries (name_of (saved.Copy id))
+            (bytes_by (WritesCopy self.old.engine.state.copies id))) }
+        ensures nothing { IsNothing self.new.placed }
+        ensures placed { self.new.has_failed ≡ false → kept.new.is_placed ≡ true }
+        ensures stays { self.new.has_failed ≡ false → self.old.has_failed ≡ false }
         ensures engine { self.new.engine ≡ self.old.engine }
         ensures claimed { F.is_claimed self.new.folder }
     {
@@ -56,13 +74,23 @@ impl<F: Folder, S: PageStore, D: LogDevice + TellsWhy> Session<'_, F, S, D> {
     /// Puts the manifest in place, or tells why not.
     fn keep_manifest(&mut self, kept: &mut KeptManifest)
         requires { F.is_claimed self.old.folder }
+        ensures put { self.new.has_failed ≡ false
+            → IsManifestIn (F.entries self.new.folder) kept.new.manifest }
+        ensures named { self.new.has_failed ≡ false → IfSome self.old.placed.copy (λ id.
+            Names kept.new.manifest.entries (name_of (saved.Copy id))
+            (bytes_by (WritesCopy self.old.engine.state.copies id))) }
+        ensures nothing { IsNothing self.new.placed }
+        ensures due { kept.new.is_due ≡ false }
+        ensures placed { self.new.has_failed ≡ false → kept.new.is_placed ≡ true }
+        ensures stays { self.new.has_failed ≡ false → self.old.has_failed ≡ false }
         ensures engine { self.new.engine ≡ self.old.engine }
         ensures claimed { F.is_claimed self.new.folder }
     {
         let copy = self.placed.copy;
+        let done = self.put_manifest(kept, copy);
         self.placed = Placed::nothing();
         kept.is_due = false;
-        match self.put_manifest(kept, copy) {
+        match done {
             Ok(()) => kept.is_placed = true,
             Err(fault) => {
                 kept.is_placed = false;
@@ -72,9 +100,8 @@ impl<F: Folder, S: PageStore, D: LogDevice + TellsWhy> Session<'_, F, S, D> {
         }
     }
 
-    /// Puts the manifest in place, which names the log as far as it is forced, the copy that was put
-    /// in place, and the master record of the last complete checkpoint. One that waits is not named:
-    /// an older one may stand there.
+    /// Puts the manifest in place, which names the log as far as it is forced, the copy that was
+    /// put in place, and the master record of the last complete checkpoint, unless that one waits.
     fn put_manifest(&mut self, kept: &mut KeptManifest, copy: Option<u32>) -> Result<(), FileFault>
         requires claimed { F.is_claimed self.old.folder }
         ensures put { OnOk result (HasFile (codes "manifest")
@@ -92,15 +119,37 @@ impl<F: Folder, S: PageStore, D: LogDevice + TellsWhy> Session<'_, F, S, D> {
         ensures master { OnOk result (self.old.point ≡ None
             → IfSome self.old.engine.state.master (λ point.
             Names kept.new.manifest.entries MASTER.now (is_master point.begin point.end))) }
+        // One that waits is not named: an older one may stand there.
+        ensures waits { OnOk result (self.old.point ≢ None
+            → file_of MASTER.now kept.new.manifest.entries ≡ None) }
+        ensures others { OnOk result (KeepsOtherLines copy kept.old.manifest.entries
+            kept.new.manifest.entries) }
+        ensures failed { self.new.has_failed ≡ self.old.has_failed }
         ensures engine { self.new.engine ≡ self.old.engine }
         ensures claimed { F.is_claimed self.new.folder }
     {
-        match self.engine.master() {
-            Some(point) if self.point.is_none() => note_master(&mut kept.manifest, point)?,
-            _ => kept.manifest.remove(MASTER),
-        }
+        self.note_last(&mut kept.manifest)?;
         note_files(self.alloc, &self.engine, kept, copy)?;
         put_text(&mut self.folder, self.alloc, &kept.manifest)
+    }
+
+    /// Notes the master record of the last complete checkpoint, unless that one waits for it.
+    fn note_last(&self, manifest: &mut Manifest) -> Result<(), FileFault>
+        ensures master { OnOk result (self.now.point ≡ None
+            → IfSome self.now.engine.state.master (λ point.
+            Names manifest.new.entries MASTER.now (is_master point.begin point.end))) }
+        ensures waits { OnOk result (self.now.point ≢ None
+            → file_of MASTER.now manifest.new.entries ≡ None) }
+        ensures others { OnOk result (NotesOnly MASTER.now manifest.old.entries
+            manifest.new.entries) }
+    {
+        match self.engine.master() {
+            Some(point) if self.point.is_none() => note_master(manifest, point),
+            _ => {
+                manifest.remove(MASTER);
+                Ok(())
+            }
+        }
     }
 }
 
@@ -121,6 +170,8 @@ fn note_files<S: PageStore, D: LogDevice>(
         (bytes_by (WritesCopy engine.now.state.copies id)))) }
     ensures master { OnOk result (file_of MASTER.now kept.new.manifest.entries
         ≡ file_of MASTER.now kept.old.manifest.entries) }
+    ensures others { OnOk result (KeepsOtherLines copy kept.old.manifest.entries
+        kept.new.manifest.entries) }
 {
     if let Some(id) = copy {
         note_copy(alloc, engine, &mut kept.manifest, id)?;
@@ -171,8 +222,9 @@ fn note_copy<S: PageStore, D: LogDevice>(
 
 /// Notes the master record of a checkpoint.
 fn note_master(manifest: &mut Manifest, point: Point) -> Result<(), FileFault>
-    ensures { OnOk result (Names manifest.new.entries MASTER.now
+    ensures named { OnOk result (Names manifest.new.entries MASTER.now
         (is_master point.begin point.end)) }
+    ensures others { OnOk result (NotesOnly MASTER.now manifest.old.entries manifest.new.entries) }
 {
     let master = Master {
         begin: point.begin,

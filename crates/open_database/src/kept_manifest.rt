@@ -1,13 +1,16 @@
 //! The manifest that an open database keeps, and the sum of its log.
 
-ghost use Rattle.std.specs.Prelude.{IfOk, ℕ, ◌≡◌, ◌≢◌, ◌++◌, [], List, IfSome, OnOk, Some};
+ghost use Rattle.std.specs.Prelude.{IfOk, ℕ, ◌≡◌, ◌≢◌, ◌++◌, [], List, IfSome, IsTrue, None};
+ghost use Rattle.std.specs.Prelude.{OnOk, Some, false, string_bytes};
 ghost use Rattle.std.specs.List.{flat_map};
 ghost use Rattle.log_records.specs.Log.{Log as TheLog, header_bytes};
 ghost use Rattle.log_records.specs.Record.{record_bytes};
 ghost use Rattle.manifest.specs.Entries.{file_of};
+ghost use Rattle.manifest.specs.declared.entry.Extent.TheVariants.{First};
 ghost use Rattle.manifest.specs.Sums.{HasSummed, IsSumOf};
+ghost use Rattle.open_database.specs.DatabaseFolder.{Tells};
 ghost use Rattle.open_database.specs.Evidence.{log_line};
-ghost use Rattle.open_database.specs.Kept.{HasSummedLog, HaveSummedLine, bytes_below};
+ghost use Rattle.open_database.specs.Kept.{HasSummedLog, HaveSummedLine, KeepsLines, bytes_below};
 
 use crate::database_folder::DatabaseFolder;
 use crate::fault::OpenFault;
@@ -65,6 +68,7 @@ impl LogSums {
     pub fn below(&mut self, records: &[Record], end: Lsn) -> Option<FileSum>
         ensures names { IfSome result (λ file. (log : TheLog) → log.records ≡ records.now
             → HasSummedLog self.old log → IsSumOf file.sum file.bytes (bytes_below end log)) }
+        ensures extent { IfSome result (λ file. file.extent ≡ First) }
         ensures summed { (log : TheLog) → log.records ≡ records.now → HasSummedLog self.old log
             → HasSummedLog self.new log }
     {
@@ -166,7 +170,9 @@ pub(crate) fn without_lost<F: DatabaseFolder>(
     mut manifest: Manifest,
     copies: Option<&Vault>,
 ) -> Result<(Manifest, bool), OpenFault>
-    ensures { IfOk result (λ it. it.0.database ≡ manifest.database) }
+    ensures database { IfOk result (λ it. it.0.database ≡ manifest.database) }
+    ensures kept { IfOk result (λ it. copies.entry ≡ None
+        → KeepsLines (F.entries folder.now) manifest.entries it.0.entries) }
 {
     let mut has_all = true;
     for _ in 0..MOST_LINES {
@@ -190,7 +196,10 @@ fn lost_name<F: DatabaseFolder>(
     folder: &F,
     manifest: &Manifest,
     copies: Option<&Vault>,
-) -> Result<Option<String>, OpenFault> {
+) -> Result<Option<String>, OpenFault>
+    ensures { IfOk result (λ it. IfSome it (λ name. copies.entry ≡ None
+        → Tells (F.entries folder.now) (string_bytes name) false)) }
+{
     for entry in manifest.entries() {
         let name = entry.name();
         if !is_used(copies, name) || !stands(folder, name)? {
@@ -201,7 +210,9 @@ fn lost_name<F: DatabaseFolder>(
 }
 
 /// Whether this is the name of a copy that is taken up, or of no copy.
-fn is_used(copies: Option<&Vault>, name: &str) -> bool {
+fn is_used(copies: Option<&Vault>, name: &str) -> bool
+    ensures { copies.entry ≡ None → IsTrue result }
+{
     match (copies, copy_of(name)) {
         (Some(copies), Some(id)) => copies.complete(id).is_some(),
         _ => true,
@@ -209,8 +220,13 @@ fn is_used(copies: Option<&Vault>, name: &str) -> bool {
 }
 
 /// Whether something in the folder has this name.
-fn stands<F: DatabaseFolder>(folder: &F, name: &str) -> Result<bool, OpenFault> {
-    folder.has(name).map_err(OpenFault::of_folder)
+fn stands<F: DatabaseFolder>(folder: &F, name: &str) -> Result<bool, OpenFault>
+    ensures { IfOk result (Tells (F.entries folder.now) name.now) }
+{
+    match folder.has(name) {
+        Ok(is) => Ok(is),
+        Err(error) => Err(OpenFault::of_folder(error)),
+    }
 }
 
 /// Notes what is known of a file.

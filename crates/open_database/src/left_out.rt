@@ -8,6 +8,7 @@ ghost use Rattle.saved_files.specs.Folder.{Changes, IsSame};
 ghost use Rattle.open_database.specs.Closed.{KeepsNote};
 ghost use Rattle.open_database.specs.LeftOut.{IsKept, IsWorthKeeping};
 ghost use Rattle.open_database.specs.MovedAside.{IsFree};
+ghost use Rattle.open_database.specs.Standing.{KeepsFiles};
 
 use crate::change_fault::ChangeFault;
 use crate::database_folder::DatabaseFolder;
@@ -51,8 +52,8 @@ fn is_worth_keeping(bytes: &[u8]) -> bool
     bytes.len() >= RECORD_BYTES && bytes.iter().any(|byte| *byte != 0)
 }
 
-/// Keeps the bytes behind a log in a file of their own, `log.left-out-1` or one with the next number
-/// that is free, whole and synced. Zeros, and less than a record, are not kept.
+/// Keeps the bytes behind a log in a file of their own, `log.left-out-1` or one with the next
+/// number that is free, whole and synced. Zeros, and less than a record, are not kept.
 pub(crate) fn put_aside<F: DatabaseFolder>(
     teller: &Teller<'_>,
     folder: &mut F,
@@ -65,6 +66,7 @@ pub(crate) fn put_aside<F: DatabaseFolder>(
     ensures same { OnOk result (¬ IsWorthKeeping bytes.now
         → Changes IsSame (F.entries folder.old) (F.entries folder.new)) }
     ensures note { OnOk result (KeepsNote (F.entries folder.old) (F.entries folder.new)) }
+    ensures files { Changes KeepsFiles (F.entries folder.old) (F.entries folder.new) }
     ensures claimed { F.is_claimed folder.new }
 {
     if !is_worth_keeping(bytes) {

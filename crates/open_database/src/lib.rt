@@ -31,6 +31,7 @@ mod left_out;
 mod line_reader;
 mod log_file;
 mod made_files;
+mod made_ready;
 mod manifest_file;
 mod moved_aside;
 mod names;

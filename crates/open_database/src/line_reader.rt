@@ -55,6 +55,8 @@ impl<R: Read + Drop> LineReader<R> {
     ghost use Rattle.open_database.specs.Lines.{GivesByte, GivesLine, GivesUntilQuit, IsReadSoFar};
     ghost use Rattle.open_database.specs.Lines.{bytes_left};
 
+    /// Reads lines from a reader, from where it stands. An `Err` comes where memory for the piece
+    /// is refused.
     pub fn new(alloc: Global, reader: R) -> Result<LineReader<R>, AllocError>
         ensures { IfOk result (λ lines. bytes_left R.remaining lines ≡ R.remaining reader) }
     {

@@ -1,20 +1,26 @@
 //! The calls whose answers say that a file is in place.
 
-ghost use Rattle.std.specs.Prelude.{ℕ, ◌≡◌, ◌≢◌, Err, IfSome, None, Ok, OnErr, OnOk};
+ghost use Rattle.std.specs.Prelude.{ℕ, ◌≡◌, ◌≢◌, [], Err, IfSome, None, Ok, OnErr, OnOk, Some};
+ghost use Rattle.std.specs.Prelude.{true};
 ghost use Rattle.std.specs.List.{Contains};
 ghost use Rattle.copy_vault.specs.CopyWrite.{WritesCopy};
-ghost use Rattle.engine_calls.specs.declared.event.Answer.TheVariants.{Copied, Point};
+ghost use Rattle.copy_vault.specs.Vault.{complete_of, state_of, taken_in};
+ghost use Rattle.engine_calls.specs.declared.event.Answer.TheVariants as answered;
+ghost use Rattle.engine_calls.specs.declared.event.Answer.TheVariants.{Copied};
 ghost use Rattle.engine_calls.specs.declared.event.Event.TheVariants as event;
 ghost use Rattle.engine_calls.specs.declared.refusal.Refusal.TheVariants as refusal;
 ghost use Rattle.engine_rules.specs.Step.{Step};
+ghost use Rattle.saved_files.specs.Folder.{Changes, Puts};
 ghost use Rattle.saved_files.specs.PutFault.{bytes_by};
 ghost use Rattle.saved_files.specs.Saved.{name_of};
 ghost use Rattle.saved_files.specs.declared.saved_name.SavedName.TheVariants as saved;
-ghost use Rattle.open_database.specs.Calls.{Makes, copy_call};
-ghost use Rattle.open_database.specs.MadeFiles.{IfPoint, IsCopy, StepsAndSays, HasFile, answer_of};
-ghost use Rattle.open_database.specs.MadeFiles.{is_master};
-ghost use Rattle.open_database.specs.Pending.{Waits, WaitsFree, WaitsUnlessPlaced};
-ghost use Rattle.open_database.specs.Said.{IsAnswer, IsAnswerOr};
+ghost use Rattle.open_database.specs.Calls.{Makes, MakesOne, copy_call};
+ghost use Rattle.open_database.specs.MadeFiles.{HasFile, IfPoint, IsCopy, IsEndedOrWaited};
+ghost use Rattle.open_database.specs.MadeFiles.{IsSealedAgain, StepsAndSays, is_master};
+ghost use Rattle.open_database.specs.MovedAside.{IsCleared, PutsAside};
+ghost use Rattle.open_database.specs.Pending.{PointWaits, PointWaitsUnlessPlaced, Waits};
+ghost use Rattle.open_database.specs.Pending.{WaitsFree, WaitsUnlessPlaced, answer_of};
+ghost use Rattle.open_database.specs.Said.{IsAnswer, IsAnswerOr, IsReply};
 
 use crate::database_folder::DatabaseFolder;
 use crate::engine_files::{place_copy, place_master};
@@ -25,9 +31,11 @@ use crate::session::{Session, TellsWhy};
 use crate::unplaced_point::UnplacedPoint;
 use aries_core::{Answer, Event, Refusal, Reply};
 use copy_vault::{CopyId, CopyWriteFault};
+use fuzzy_ckpt::Point;
 use log_store::LogDevice;
 use page_store::PageStore;
 use saved_files::{FileFault, PutFault};
+use std::io;
 
 impl<F: DatabaseFolder, S: PageStore, D: LogDevice + TellsWhy> Session<'_, F, S, D> {
     /// Makes a copy complete, and puts its file in place. Where the engine has made it complete
@@ -42,6 +50,11 @@ impl<F: DatabaseFolder, S: PageStore, D: LogDevice + TellsWhy> Session<'_, F, S,
         ensures stored { IsAnswer result → F.is_stored self.new.folder }
         // Where it is said that the file is not in place, the copy waits for it from then on.
         ensures waits { WaitsUnlessPlaced id result self.new.pending }
+        // It is tried again then, and answered as the call that made the copy complete.
+        ensures again { Waits self.old.pending id → IsSealedAgain
+            (state_of self.old.engine.state.copies id) result }
+        // Where it is in place, it is to be named in the manifest.
+        ensures noted { IsAnswer result → self.new.placed.copy ≡ Some id }
         ensures claimed { F.is_claimed self.new.folder }
     {
         match self.complete(id) {
@@ -72,12 +85,18 @@ impl<F: DatabaseFolder, S: PageStore, D: LogDevice + TellsWhy> Session<'_, F, S,
 
     /// How many pages a complete copy has whose file is not in place, if this is one.
     fn waiting(&self, id: u32) -> Option<u32>
-        ensures { IfSome result (λ _. Waits self.now.pending id) }
+        ensures waits { IfSome result (λ _. Waits self.now.pending id) }
+        ensures taken { IfSome result (λ taken.
+            taken ≡ taken_in (state_of self.now.engine.state.copies id)) }
+        ensures none { result ≡ None → Waits self.now.pending id
+            → complete_of (state_of self.now.engine.state.copies id) ≡ None }
     {
-        if self.pending.has(id) {
-            Some(self.engine.copies().complete(CopyId(id))?.taken())
-        } else {
-            None
+        if !self.pending.has(id) {
+            return None;
+        }
+        match self.engine.copies().complete(CopyId(id)) {
+            Some(copy) => Some(copy.taken()),
+            None => None,
         }
     }
 
@@ -90,6 +109,7 @@ impl<F: DatabaseFolder, S: PageStore, D: LogDevice + TellsWhy> Session<'_, F, S,
             (bytes_by (WritesCopy self.new.engine.state.copies id)) (F.entries self.new.folder) }
         ensures stored { IsAnswer result → F.is_stored self.new.folder }
         ensures waits { WaitsUnlessPlaced id result self.new.pending }
+        ensures noted { IsAnswer result → self.new.placed.copy ≡ Some id }
         ensures engine { self.new.engine ≡ self.old.engine }
         ensures claimed { F.is_claimed self.new.folder }
     {
@@ -156,16 +176,17 @@ impl<F: DatabaseFolder, S: PageStore, D: LogDevice + TellsWhy> Session<'_, F, S,
         ensures put { IfPoint result (λ begin end. HasFile (name_of saved.Master)
             (is_master begin end) (F.entries self.new.folder)) }
         ensures stored { IfPoint result (λ _ _. F.is_stored self.new.folder) }
+        // What stood there as one, and was wrong, has another name, and no other name changes.
+        ensures kept { IfPoint result (λ begin end. PutsAside (self.old.is_master_wrong ≡ true)
+            (name_of saved.Master) (is_master begin end)
+            (F.entries self.old.folder) (F.entries self.new.folder)) }
+        ensures which { IsEndedOrWaited self.old.engine.state self.old.point result
+            self.new.engine.state }
+        ensures waits { PointWaitsUnlessPlaced self.old.point result self.new.point }
         ensures claimed { F.is_claimed self.new.folder }
     {
-        match self.engine.apply(Event::CkptEnd) {
-            Ok(answer) => match point_of(&answer) {
-                Some(point) => {
-                    self.point = Some(point);
-                    self.place_point(&point)
-                }
-                None => Said::Reply(Ok(answer)),
-            },
+        match self.engine.ckpt_end() {
+            Ok(point) => self.place_ended(point),
             Err(Refusal::NoCkpt) => match self.point {
                 Some(point) => self.place_point(&point),
                 None => Said::Reply(Err(Refusal::NoCkpt)),
@@ -174,14 +195,54 @@ impl<F: DatabaseFolder, S: PageStore, D: LogDevice + TellsWhy> Session<'_, F, S,
         }
     }
 
-    /// Puts the master record of a checkpoint in place, and answers the checkpoint, if it is there.
-    pub(crate) fn place_point(&mut self, point: &UnplacedPoint) -> Said
+    /// Puts the master record of the last checkpoint in place, and answers it, if it is there.
+    pub(crate) fn place_ended(&mut self, point: Point) -> Said
         requires { F.is_claimed self.old.folder }
+        ensures says { IsAnswerOr (answered.Point point.begin point.end point.redo) result }
+        ensures placed { IsAnswer result → self.new.point ≡ None }
+        ensures waits { ¬ IsAnswer result
+            → PointWaits self.new.point (answered.Point point.begin point.end point.redo) }
+        ensures noted { IsAnswer result → self.new.placed.master ≡ true }
+        ensures put { IsAnswer result → HasFile (name_of saved.Master)
+            (is_master point.begin point.end) (F.entries self.new.folder) }
+        ensures stored { IsAnswer result → F.is_stored self.new.folder }
+        ensures kept { IsAnswer result → PutsAside (self.old.is_master_wrong ≡ true)
+            (name_of saved.Master) (is_master point.begin point.end)
+            (F.entries self.old.folder) (F.entries self.new.folder) }
+        ensures failed { self.new.has_failed ≡ self.old.has_failed }
+        ensures engine { self.new.engine ≡ self.old.engine }
+        ensures pending { self.new.pending ≡ self.old.pending }
+        ensures unread { self.new.unread ≡ self.old.unread }
+        ensures claimed { F.is_claimed self.new.folder }
+    {
+        let unplaced = UnplacedPoint {
+            begin: point.begin.0,
+            end: point.end.0,
+            redo: point.redo.0,
+        };
+        self.point = Some(unplaced);
+        self.place_point(&unplaced)
+    }
+
+    /// Puts the master record of the checkpoint that waits in place, and answers it, if it is
+    /// there.
+    fn place_point(&mut self, point: &UnplacedPoint) -> Said
+        requires claimed { F.is_claimed self.old.folder }
+        requires waits { self.old.point ≡ Some point.now }
         ensures says { IsAnswerOr (answer_of point.now) result }
+        ensures placed { IsAnswer result → self.new.point ≡ None }
+        ensures waits { ¬ IsAnswer result → self.new.point ≡ self.old.point }
+        ensures noted { IsAnswer result → self.new.placed.master ≡ true }
         ensures put { IsAnswer result → HasFile (name_of saved.Master)
             (is_master point.now.begin point.now.end) (F.entries self.new.folder) }
         ensures stored { IsAnswer result → F.is_stored self.new.folder }
+        ensures kept { IsAnswer result → PutsAside (self.old.is_master_wrong ≡ true)
+            (name_of saved.Master) (is_master point.now.begin point.now.end)
+            (F.entries self.old.folder) (F.entries self.new.folder) }
+        ensures failed { self.new.has_failed ≡ self.old.has_failed }
         ensures engine { self.new.engine ≡ self.old.engine }
+        ensures pending { self.new.pending ≡ self.old.pending }
+        ensures unread { self.new.unread ≡ self.old.unread }
         ensures claimed { F.is_claimed self.new.folder }
     {
         match self.keep_master(point) {
@@ -197,20 +258,72 @@ impl<F: DatabaseFolder, S: PageStore, D: LogDevice + TellsWhy> Session<'_, F, S,
         }
     }
 
+    /// Puts the master record of a checkpoint in place. What stands there and names no checkpoint
+    /// of the log gets another name.
     fn keep_master(&mut self, point: &UnplacedPoint) -> Result<(), FileFault>
         requires { F.is_claimed self.old.folder }
         ensures put { OnOk result (HasFile (name_of saved.Master)
             (is_master point.now.begin point.now.end) (F.entries self.new.folder)) }
         ensures stored { OnOk result (F.is_stored self.new.folder) }
+        ensures kept { OnOk result (PutsAside (self.old.is_master_wrong ≡ true)
+            (name_of saved.Master) (is_master point.now.begin point.now.end)
+            (F.entries self.old.folder) (F.entries self.new.folder)) }
+        ensures point { self.new.point ≡ self.old.point }
+        ensures failed { self.new.has_failed ≡ self.old.has_failed }
         ensures engine { self.new.engine ≡ self.old.engine }
+        ensures pending { self.new.pending ≡ self.old.pending }
+        ensures unread { self.new.unread ≡ self.old.unread }
         ensures claimed { F.is_claimed self.new.folder }
     {
-        if self.is_master_wrong {
-            if move_master_aside(&self.teller, &mut self.folder).is_err() {
-                return Err(FileFault::WriteFault(0));
-            }
-            self.is_master_wrong = false;
+        match self.clear_master() {
+            Ok(()) => self.put_master(point),
+            Err(_) => Err(FileFault::WriteFault(0)),
         }
+    }
+
+    /// Gives what stands as the master record another name, if it names no checkpoint of the log.
+    fn clear_master(&mut self) -> io::Result<()>
+        requires { F.is_claimed self.old.folder }
+        ensures cleared { OnOk result (self.old.is_master_wrong ≡ true
+            → IsCleared (name_of saved.Master)
+            (F.entries self.old.folder) (F.entries self.new.folder)) }
+        ensures kept { OnOk result (¬ (self.old.is_master_wrong ≡ true)
+            → F.entries self.new.folder ≡ F.entries self.old.folder) }
+        ensures point { self.new.point ≡ self.old.point }
+        ensures failed { self.new.has_failed ≡ self.old.has_failed }
+        ensures engine { self.new.engine ≡ self.old.engine }
+        ensures pending { self.new.pending ≡ self.old.pending }
+        ensures unread { self.new.unread ≡ self.old.unread }
+        ensures claimed { F.is_claimed self.new.folder }
+    {
+        if !self.is_master_wrong {
+            return Ok(());
+        }
+        match move_master_aside(&self.teller, &mut self.folder) {
+            Ok(()) => {
+                self.is_master_wrong = false;
+                Ok(())
+            }
+            Err(why) => Err(why),
+        }
+    }
+
+    /// Puts the master record of a checkpoint in the place of the one before.
+    fn put_master(&mut self, point: &UnplacedPoint) -> Result<(), FileFault>
+        requires { F.is_claimed self.old.folder }
+        ensures put { OnOk result (HasFile (name_of saved.Master)
+            (is_master point.now.begin point.now.end) (F.entries self.new.folder)) }
+        ensures stored { OnOk result (F.is_stored self.new.folder) }
+        ensures kept { OnOk result (Changes
+            (Puts (name_of saved.Master) (is_master point.now.begin point.now.end))
+            (F.entries self.old.folder) (F.entries self.new.folder)) }
+        ensures point { self.new.point ≡ self.old.point }
+        ensures failed { self.new.has_failed ≡ self.old.has_failed }
+        ensures engine { self.new.engine ≡ self.old.engine }
+        ensures pending { self.new.pending ≡ self.old.pending }
+        ensures unread { self.new.unread ≡ self.old.unread }
+        ensures claimed { F.is_claimed self.new.folder }
+    {
         match place_master(&mut self.folder, self.alloc, point.master()) {
             Ok(()) => Ok(()),
             Err(PutFault::Unwritten(why) | PutFault::Unmade(why) | PutFault::Unplaced(why)) => {
@@ -224,9 +337,13 @@ impl<F: DatabaseFolder, S: PageStore, D: LogDevice + TellsWhy> Session<'_, F, S,
         ensures made { Makes (event.CopyInc parent) self.old.engine.state result
             self.new.engine.state }
         ensures given { IsCopy result (λ id. ¬ Contains self.old.unread.items id) }
+        ensures once { self.old.unread.items ≡ [] → ¬ Waits self.old.pending parent
+            → MakesOne (event.CopyInc parent) self.old.engine.state result
+            self.new.engine.state }
         ensures refused { Waits self.old.pending parent
             → result ≡ Said.Reply (Err refusal.CopyNotComplete) }
         ensures same { Waits self.old.pending parent → self.new.engine ≡ self.old.engine }
+        ensures replied { IsReply result }
         ensures folder { self.new.folder ≡ self.old.folder }
     {
         if self.pending.has(parent) {
@@ -241,6 +358,10 @@ impl<F: DatabaseFolder, S: PageStore, D: LogDevice + TellsWhy> Session<'_, F, S,
         ensures made { Makes (copy_call parent) self.old.engine.state result
             self.new.engine.state }
         ensures given { IsCopy result (λ id. ¬ Contains self.old.unread.items id) }
+        // Where each file could be read, the first call is said.
+        ensures once { self.old.unread.items ≡ [] → MakesOne (copy_call parent)
+            self.old.engine.state result self.new.engine.state }
+        ensures replied { IsReply result }
         ensures folder { self.new.folder ≡ self.old.folder }
     {
         for _ in 0..=self.unread.len() {
@@ -252,7 +373,7 @@ impl<F: DatabaseFolder, S: PageStore, D: LogDevice + TellsWhy> Session<'_, F, S,
                 _ => return Said::Reply(reply),
             }
         }
-        // Ids rise, so that no more are passed over than were not read.
+        // No more are passed over than were not read, for ids rise.
         Said::Reply(Err(Refusal::TooManyCopies))
     }
 
@@ -267,21 +388,6 @@ impl<F: DatabaseFolder, S: PageStore, D: LogDevice + TellsWhy> Session<'_, F, S,
             None => self.engine.apply(Event::CopyFull),
             Some(id) => self.engine.apply(Event::CopyInc(CopyId(id))),
         }
-    }
-}
-
-/// The LSNs of the checkpoint that is answered, if one is.
-fn point_of(answer: &Answer) -> Option<UnplacedPoint>
-    ensures found { IfSome result (λ point. answer.now ≡ answer_of point) }
-    ensures none { result ≡ None → (begin end redo : ℕ) → answer.now ≢ Point begin end redo }
-{
-    match answer {
-        Answer::Point { begin, end, redo } => Some(UnplacedPoint {
-            begin: begin.0,
-            end: end.0,
-            redo: redo.0,
-        }),
-        _ => None,
     }
 }
 

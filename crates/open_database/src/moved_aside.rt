@@ -4,7 +4,7 @@ ghost use Rattle.std.specs.Prelude.{◌≡◌, IfOk, OnOk, string_bytes};
 ghost use Rattle.saved_files.specs.Folder.{Changes, IsRenamed};
 ghost use Rattle.saved_files.specs.Saved.{name_of};
 ghost use Rattle.saved_files.specs.declared.saved_name.SavedName.TheVariants as saved;
-ghost use Rattle.open_database.specs.MovedAside.{IsFree, IsFreed};
+ghost use Rattle.open_database.specs.MovedAside.{IsAside, IsFree, IsFreed};
 
 use crate::database_folder::DatabaseFolder;
 use crate::names::{MANIFEST, MASTER};
@@ -123,7 +123,8 @@ fn rename_lastingly<F: Folder>(folder: &mut F, from: &str, to: &str) -> io::Resu
 
 /// The first name for a refused file of this name that nothing in the folder has.
 fn free_name<F: DatabaseFolder>(alloc: Global, folder: &F, name: &str) -> io::Result<String>
-    ensures { IfOk result (λ it. IsFree (string_bytes it) (F.entries folder.now)) }
+    ensures aside { IfOk result (λ it. IsAside name.now (string_bytes it)) }
+    ensures free { IfOk result (λ it. IsFree (string_bytes it) (F.entries folder.now)) }
 {
     for number in 1..=MOST_REFUSED {
         let aside = name_aside(alloc, name, number)?;
@@ -135,7 +136,9 @@ fn free_name<F: DatabaseFolder>(alloc: Global, folder: &F, name: &str) -> io::Re
 }
 
 /// The name of this number for a refused file.
-fn name_aside(alloc: Global, name: &str, number: u32) -> Result<String, AllocError> {
+fn name_aside(alloc: Global, name: &str, number: u32) -> Result<String, AllocError>
+    ensures { IfOk result (λ it. IsAside name.now (string_bytes it)) }
+{
     if number == 1 {
         format!(in alloc; "{name}.refused")
     } else {

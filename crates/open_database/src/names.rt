@@ -1,8 +1,8 @@
 //! The names of the files of a database, which stand in its folder.
 
 ghost use Rattle.std.specs.Prelude.{IsTrue};
-ghost use Rattle.open_database.specs.Backups.{IsUnfinished};
 ghost use Rattle.open_database.specs.Found.{IsReadOf, NamesCopy, SpellsNumber};
+ghost use Rattle.open_database.specs.Standing.{IsUnfinished};
 
 use copy_vault::CopyId;
 

@@ -1,19 +1,25 @@
 //! Opens a database in a folder, and answers the lines of standard input.
 
-ghost use Rattle.std.specs.Prelude.{ℕ, ◌≡◌, ◌≢◌, ◌⊎◌, IfErr, IfOk, IfSome, List, None, OnOk, Option};
-ghost use Rattle.std.specs.Prelude.{Some};
+ghost use Rattle.std.specs.Prelude.{ℕ, ◌≡◌, ◌≢◌, ◌≤◌, ◌⊎◌, false, IfErr, IfOk, IfSome, List, None};
+ghost use Rattle.std.specs.Prelude.{OnErr, OnOk, Option, Some, true};
+ghost use Rattle.std.specs.List.Sorted.{IsNonDecreasing};
 ghost use Rattle.buffer_pool.specs.Pool.{IsFrameCount};
 ghost use Rattle.log_records.specs.Log.{IsPageCount};
 ghost use Rattle.saved_files.specs.Folder.{Changes, IsSame};
 ghost use Rattle.std.specs.Io.KnownBytes.{Appends};
 ghost use Rattle.open_database.specs.Calls.{Lives};
-ghost use Rattle.open_database.specs.DatabaseFolder.{OpensLog};
+ghost use Rattle.open_database.specs.Closed.{IsNoted};
+ghost use Rattle.open_database.specs.DatabaseFolder.{HasNoOtherVolume, OpensLog};
 ghost use Rattle.open_database.specs.FirstLine.{first_line};
-ghost use Rattle.open_database.specs.Found.{IsInventoryOf};
-ghost use Rattle.open_database.specs.Opened.{Begins, IsNew, len_of};
+ghost use Rattle.open_database.specs.Evidence.{log_line};
+ghost use Rattle.open_database.specs.Found.{IsFoundIn, IsInventoryOf, SpellsManifest};
+ghost use Rattle.open_database.specs.MadeFiles.{HasFile, is_master};
+ghost use Rattle.open_database.specs.Opened.{Begins, BeginsAnew, HandsOn, HasNoWidow, len_of};
 ghost use Rattle.open_database.specs.Refused.{IsRefusal};
-ghost use Rattle.open_database.specs.Session.{LeavesLine, LivesByLines, ServesLines};
-ghost use Rattle.open_database.specs.WholeLives.{LivedByLines};
+ghost use Rattle.open_database.specs.Session.{LeavesLine, LivesByAllLines, LivesByLines};
+ghost use Rattle.open_database.specs.Session.{ServesAllLines, ServesLines};
+ghost use Rattle.open_database.specs.Standing.{KeepsFiles};
+ghost use Rattle.open_database.specs.WholeLives.{LivedByAllLines, LivedByLines};
 ghost use Rattle.open_database.specs.declared.open.OpenEnd.TheVariants.{Failed};
 
 use crate::begin::begin;
@@ -25,6 +31,7 @@ use crate::inventory::Inventory;
 use crate::kept_manifest::KeptManifest;
 use crate::line_reader::LineReader;
 use crate::log_file::{LogFile, is_headless, of_log};
+use crate::names::{MANIFEST, MASTER};
 use crate::opened_session::{OpenedSession, session_in};
 use crate::place::Place;
 use crate::prompt::Prompted;
@@ -33,7 +40,6 @@ use crate::session::{ServeFault, Session, TellsWhy};
 use crate::streams::{StreamNotes, Streams};
 use crate::system_database::{SystemDatabase, output};
 use crate::told::Teller;
-use crate::unplaced_point::UnplacedPoint;
 use crate::volume_file::check_volume;
 use aries_core::Setup;
 use fuzzy_ckpt::Point;
@@ -85,7 +91,7 @@ pub fn open_folder(rt: &HostRuntime, call: &OpenCall<'_>) -> OpenEnd
     requires frames { IsFrameCount call.now.frames }
     // Of the system's folder, input and output nothing is known.
     ensures { result ≢ Failed → (written : Option (List ℕ))
-        × LivedByLines None None call.now.salvage call.now.pages call.now.frames None written }
+        × LivedByAllLines None None call.now.salvage call.now.pages call.now.frames None written }
 {
     // Where a standard stream is closed, a file of the database must not get its number.
     let _held = held(rt);
@@ -125,7 +131,7 @@ pub fn open_in<F: DatabaseFolder + Drop, R: Read, W: Write>(
 ) -> OpenEnd
     requires pages { IfSome call.now.pages IsPageCount }
     requires frames { IsFrameCount call.now.frames }
-    ensures lived { result ≢ Failed → LivedByLines (F.entries folder) (R.remaining input.old)
+    ensures lived { result ≢ Failed → LivedByAllLines (F.entries folder) (R.remaining input.old)
         call.now.salvage call.now.pages call.now.frames
         (W.contents output.old) (W.contents output.new) }
     // Where it failed, too, nothing else was written.
@@ -161,7 +167,7 @@ fn lived_on<'a, F: DatabaseFolder + Drop, R: Read + Drop, W: Write + Drop>(
     requires pages { IfSome call.now.pages IsPageCount }
     requires frames { IsFrameCount call.now.frames }
     ensures { result ≢ Failed → (written : Option (List ℕ))
-        × LivedByLines (F.entries folder) (R.remaining streams.entry.input) call.now.salvage
+        × LivedByAllLines (F.entries folder) (R.remaining streams.entry.input) call.now.salvage
         call.now.pages call.now.frames (W.contents streams.entry.output) written }
 {
     let Streams {
@@ -192,7 +198,7 @@ fn lived<'a, F: DatabaseFolder + Drop, R: Read, W: Write>(
 ) -> OpenEnd
     requires pages { IfSome call.now.pages IsPageCount }
     requires frames { IsFrameCount call.now.frames }
-    ensures lived { result ≢ Failed → LivedByLines (F.entries folder) (R.remaining input.old)
+    ensures lived { result ≢ Failed → LivedByAllLines (F.entries folder) (R.remaining input.old)
         call.now.salvage call.now.pages call.now.frames
         (W.contents output.old) (W.contents output.new) }
     ensures told { (W.contents output.new ≡ W.contents output.old)
@@ -246,7 +252,13 @@ pub(crate) fn opened<F: DatabaseFolder>(
     ensures begins { IfOk result (λ it. (log : Option ℕ) × (ids : List ℕ)
         × Begins (F.entries folder.old) call.now.salvage log ids call.now.pages call.now.frames
         it.first it.engine.state) }
+    ensures handed { IfOk result (λ it. HandsOn (F.entries folder.old) call.now.salvage it.first
+        it.engine.state it.unread.items it.point it.is_master_wrong) }
     ensures claimed { IfOk result (λ _. F.is_claimed folder.new) }
+    // However it ends, each file is left as it was, but for the log, the volume, the note of a
+    // closing and what is unfinished, unless what is left of a log is to be opened.
+    ensures kept { call.now.salvage ≡ false
+        → Changes KeepsFiles (F.entries folder.old) (F.entries folder.new) }
     // The folder was only looked at.
     ensures refused { IfErr result (λ fault. IsRefusal fault
         → Changes IsSame (F.entries folder.old) (F.entries folder.new)) }
@@ -273,9 +285,14 @@ fn open_from<F: DatabaseFolder>(
     requires claimed { F.is_claimed folder.old }
     requires there { OpensLog (F.entries folder.old) F.held log }
     requires inventory { IsInventoryOf (F.entries folder.old) there.now }
+    requires rise { IsNonDecreasing there.now.copies.items }
     ensures begins { IfOk result (λ it. Begins (F.entries folder.old) call.now.salvage
         (len_of log) there.now.copies.items call.now.pages call.now.frames it.first
         it.engine.state) }
+    ensures kept { call.now.salvage ≡ false
+        → Changes KeepsFiles (F.entries folder.old) (F.entries folder.new) }
+    ensures handed { IfOk result (λ it. HandsOn (F.entries folder.old) call.now.salvage it.first
+        it.engine.state it.unread.items it.point it.is_master_wrong) }
     ensures refused { IfErr result (λ fault. IsRefusal fault
         → Changes IsSame (F.entries folder.old) (F.entries folder.new)) }
     ensures claimed { F.is_claimed folder.new }
@@ -301,8 +318,12 @@ fn begun<F: DatabaseFolder>(
     requires pages { IfSome call.now.pages IsPageCount }
     requires frames { IsFrameCount call.now.frames }
     requires claimed { F.is_claimed folder.old }
-    ensures new { IfOk result (λ it. IsNew call.now.pages call.now.frames it.first
-        it.engine.state) }
+    requires inventory { IsInventoryOf (F.entries folder.old) there.now }
+    ensures new { IfOk result (λ it. BeginsAnew (F.entries folder.old) call.now.pages
+        call.now.frames it.first it.engine.state) }
+    ensures handed { IfOk result (λ it. HandsOn (F.entries folder.old) call.now.salvage it.first
+        it.engine.state it.unread.items it.point it.is_master_wrong) }
+    ensures kept { Changes KeepsFiles (F.entries folder.old) (F.entries folder.new) }
     // The names of the log and of the volume last.
     ensures stored { IfOk result (λ _. F.is_stored folder.new) }
     ensures refused { IfErr result (λ fault. IsRefusal fault
@@ -336,7 +357,13 @@ fn manifest_of_new<F: DatabaseFolder>(
     alloc: Global,
     folder: &F,
     there: &Inventory,
-) -> Result<Option<Manifest>, OpenFault> {
+) -> Result<Option<Manifest>, OpenFault>
+    requires { IsInventoryOf (F.entries folder.now) there.now }
+    ensures found { IfOk result
+        (IsFoundIn SpellsManifest (F.entries folder.now) MANIFEST.now) }
+    ensures header { IfOk result (λ it.
+        IfSome (log_line it) (λ file. file.bytes ≤ HEADER_BYTES)) }
+{
     let manifest = read_manifest(alloc, folder, there.has_manifest)?;
     match log_line(&manifest) {
         Some(file) if file.bytes > HEADER_BYTES as u64 => Err(OpenFault::LogLost(Place::Manifest)),
@@ -351,7 +378,10 @@ fn count_of_new<F: DatabaseFolder>(
     call: &OpenCall<'_>,
     there: &Inventory,
 ) -> Result<u32, OpenFault>
-    ensures { IfOk result (λ pages. call.now.pages ≡ Some pages) }
+    requires { IsInventoryOf (F.entries folder.now) there.now }
+    ensures told { IfOk result (λ pages. call.now.pages ≡ Some pages) }
+    ensures files { OnOk result (IfSome (F.entries folder.now) HasNoWidow) }
+    ensures volume { OnOk result (HasNoOtherVolume (F.entries folder.now)) }
 {
     if let Some(place) = there.widow() {
         return Err(OpenFault::LogLost(place));
@@ -382,6 +412,12 @@ fn live<F: DatabaseFolder, S: PageStore, D: LogDevice + TellsWhy, R: Read, W: Wr
     ensures lines { LivesByLines (first_line begun.0) (R.remaining input.old)
         session.old.engine.state session.new.engine.state
         (W.contents output.old) (W.contents output.new) }
+    // Where nothing failed, they are those of all lines, and the note of the closing stands there.
+    ensures all { session.new.has_failed ≡ false → LivesByAllLines (first_line begun.0)
+        (R.remaining input.old) session.old.engine.state session.new.engine.state
+        (W.contents output.old) (W.contents output.new) }
+    ensures noted { session.new.has_failed ≡ false
+        → IsNoted session.new.engine.state (F.entries session.new.folder) }
 {
     let (first, point) = begun;
     warn_of_room(session);
@@ -410,19 +446,17 @@ pub(crate) fn put_point<F: DatabaseFolder, S: PageStore, D: LogDevice + TellsWhy
     point: Option<Point>,
 )
     requires { F.is_claimed session.old.folder }
+    // Where it is not there then, a file failed.
+    ensures put { session.new.has_failed ≡ false → IfSome point (λ it.
+        HasFile MASTER.now (is_master it.begin it.end) (F.entries session.new.folder)) }
+    ensures stays { session.new.has_failed ≡ false → session.old.has_failed ≡ false }
     ensures engine { session.new.engine ≡ session.old.engine }
     ensures claimed { F.is_claimed session.new.folder }
 {
     let Some(point) = point else {
         return;
     };
-    let unplaced = UnplacedPoint {
-        begin: point.begin.0,
-        end: point.end.0,
-        redo: point.redo.0,
-    };
-    session.point = Some(unplaced);
-    if session.place_point(&unplaced).is_fault() {
+    if session.place_ended(point).is_fault() {
         session.has_failed = true;
     }
 }
@@ -439,6 +473,9 @@ fn serve_all<F: DatabaseFolder, S: PageStore, D: LogDevice + TellsWhy, R: Read, 
     ensures served { ServesLines (first_line first) (R.remaining input.old)
         session.old.engine.state session.new.engine.state
         (W.contents output.old) (W.contents output.new) }
+    ensures all { OnOk result (ServesAllLines (first_line first) (R.remaining input.old)
+        session.old.engine.state session.new.engine.state
+        (W.contents output.old) (W.contents output.new)) }
     ensures claimed { F.is_claimed session.new.folder }
 {
     let Ok(mut lines) = LineReader::new(session.alloc, input) else {
@@ -457,6 +494,7 @@ fn note_served<F: Folder, S: PageStore, D: LogDevice>(
     input: &Notes,
     output: &Notes,
 )
+    ensures failed { OnErr served (session.new.has_failed ≡ true) }
     ensures engine { session.new.engine ≡ session.old.engine }
     ensures folder { session.new.folder ≡ session.old.folder }
 {
@@ -486,7 +524,10 @@ fn write_first<W: Write>(alloc: Global, first: FirstLine, writer: &mut W) -> Res
 fn end_of<F: Folder, S: PageStore, D: LogDevice>(
     session: &Session<'_, F, S, D>,
     call: &OpenCall<'_>,
-) -> OpenEnd {
+) -> OpenEnd
+    ensures well { result ≢ Failed → session.now.has_failed ≡ false }
+    ensures failed { result ≡ Failed → session.now.has_failed ≡ true }
+{
     let is_strict = call.strict && session.tally.has_refused();
     if is_strict {
         let tally = session.tally;

@@ -3,7 +3,7 @@
 ghost use Rattle.std.specs.Prelude.{ℕ, ◌≡◌, IfOk, IfSome, List, Option};
 ghost use Rattle.buffer_pool.specs.Pool.{IsFrameCount};
 ghost use Rattle.log_records.specs.Log.{IsPageCount};
-ghost use Rattle.open_database.specs.Opened.{Begins};
+ghost use Rattle.open_database.specs.Opened.{Begins, HandsOn};
 
 use crate::database_folder::DatabaseFolder;
 use crate::fault::OpenFault;
@@ -46,6 +46,9 @@ pub(crate) fn session_in<'a, F: DatabaseFolder + Drop>(
     ensures begins { IfOk result (λ it. (log : Option ℕ) × (ids : List ℕ)
         × Begins (F.entries folder) call.now.salvage log ids call.now.pages call.now.frames
         it.first it.session.engine.state) }
+    // These ids are not given, and the master record of this checkpoint is to be put.
+    ensures handed { IfOk result (λ it. HandsOn (F.entries folder) call.now.salvage it.first
+        it.session.engine.state it.session.unread.items it.point it.session.is_master_wrong) }
     ensures claimed { IfOk result (λ it. F.is_claimed it.session.folder) }
 {
     let pending = Pending::new(teller.alloc)?;

@@ -2,7 +2,7 @@
 
 ghost use Rattle.std.specs.Prelude.{IfOk, MatchResult};
 ghost use Rattle.open_database.specs.Lines.{unended, whole};
-ghost use Rattle.open_database.specs.Session.{IsNoOrder, LineSays, SaysCall};
+ghost use Rattle.open_database.specs.Session.{IsNoCall, LineSays, SaysCall};
 
 use crate::bad_call::LineTrouble;
 use crate::word::{Word, word_in};
@@ -53,7 +53,7 @@ pub(crate) fn said_unended(
 
 /// What a line of a script says: a call, or nothing.
 fn call_in(alloc: Global, line: &[u8]) -> Result<Result<Option<Event>, LineTrouble>, AllocError>
-    ensures { IfOk result (λ it. MatchResult it (SaysCall line.now) (IsNoOrder line.now)) }
+    ensures { IfOk result (λ it. MatchResult it (SaysCall line.now) (IsNoCall line.now)) }
 {
     let mut bytes = line;
     Ok(match read_script(alloc, &mut bytes) {

@@ -14,8 +14,8 @@ use log_store::LogDevice;
 use page_core::PageNo;
 use page_store::PageStore;
 
-/// Has a copy take each of its pages, and answers how many these are. Where one is refused, the copy
-/// is dropped.
+/// Has a copy take each of its pages, and answers how many these are. Where one is refused, the
+/// copy is dropped.
 pub(crate) fn take_or_drop<S: PageStore, D: LogDevice>(
     engine: &mut Engine<S, D>,
     teller: &Teller<'_>,
@@ -59,7 +59,8 @@ fn take_pages<S: PageStore, D: LogDevice>(
     Ok(())
 }
 
-/// Has a copy take a page. One that cannot be read is repaired first, from the newest complete copy.
+/// Has a copy take a page. One that cannot be read is repaired first, from the newest complete
+/// copy.
 fn take_page<S: PageStore, D: LogDevice>(
     engine: &mut Engine<S, D>,
     teller: &Teller<'_>,

@@ -1,5 +1,8 @@
 //! The files that were put in place since the manifest was.
 
+ghost use Rattle.std.specs.Prelude.{IsTrue};
+ghost use Rattle.open_database.specs.Kept.{IsNothing};
+
 /// What was put in place, and is to be named in the manifest.
 #[derive(Clone, Copy, Debug)]
 pub(crate) struct Placed {
@@ -10,14 +13,20 @@ pub(crate) struct Placed {
 }
 
 impl Placed {
-    pub fn nothing() -> Placed {
+    /// No file was put in place.
+    pub fn nothing() -> Placed
+        ensures { IsNothing result }
+    {
         Placed {
             copy: None,
             master: false,
         }
     }
 
-    pub fn is_nothing(&self) -> bool {
+    /// Whether none was.
+    pub fn is_nothing(&self) -> bool
+        ensures { IsTrue result → IsNothing self.now }
+    {
         self.copy.is_none() && !self.master
     }
 }

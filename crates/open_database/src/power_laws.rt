@@ -31,8 +31,9 @@ use sqlite_disk::Disk;
 /// front that is read of it begins with each forced record. So each Commit that was answered stands
 /// there, and its transaction is not open; and each complete copy restores what that front says.
 ///
-/// Nothing is assumed of what stands behind the forced records. If these are records that the engine
-/// wrote, and no others, then what is read is what `lives_follow_one_another` says of a loss.
+/// Nothing is assumed of what stands behind the forced records. If these are records that the
+/// engine wrote, and no others, then what is read is what `lives_follow_one_another` says of a
+/// loss.
 pub fn power_cuts_lose_no_commit<S: PageStore, D: Disk + Drop>(engine: &Engine<S, FileLog<D>>)
     ensures forced { (log : Log) → MayBeRead D.may_leave D.is_clean engine.now.device log
         → HasForced engine.now.state log }
@@ -75,9 +76,9 @@ pub fn cut_lives_follow_one_another()
     a_complete_copy_restores();
 }
 
-/// A cut of the power loses no file that was told of. Where the names of a folder are stored, as they
-/// are once a copy or a checkpoint is answered (`answered` of `Session::answer`), each file that is
-/// there is in all that a crash may leave, whole.
+/// A cut of the power loses no file that was told of. Where the names of a folder are stored, as
+/// they are once a copy or a checkpoint is answered (`answered` of `Session::answer`), each file
+/// that is there is in all that a crash may leave, whole.
 pub fn power_cuts_lose_no_told_file<F: Folder>()
     ensures { (folder : F) (entries left : Entries) (name bytes : List ℕ) → F.is_stored folder
         → F.entries folder ≡ Some entries → MayLeave (F.may_leave folder) left

@@ -13,6 +13,8 @@ pub(crate) struct Prompted<'a, F> {
 }
 
 impl<F: Read> Read for Prompted<'_, F> {
+    ghost remaining = { λ it. F.remaining it.stream };
+
     fn read(&mut self, buf: &mut [u8]) -> io::Result<usize> {
         if self.is_terminal {
             let _ = print!(self.rt; "imgcopy> ");

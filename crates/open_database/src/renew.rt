@@ -1,8 +1,10 @@
 //! A database of an older one's numbers, whose log begins anew.
 
-ghost use Rattle.std.specs.Prelude.{◌≡◌, IfOk, length};
+ghost use Rattle.std.specs.Prelude.{◌≡◌, IfOk, None, length, true};
+ghost use Rattle.engine_rules.specs.EngineState.{EngineState};
 ghost use Rattle.log_records.specs.Log.{IsPageCount};
-ghost use Rattle.open_database.specs.ClosedVolume.{IsOfClosed, IsRenewed, WasRenewed};
+ghost use Rattle.open_database.specs.Backups.{BacksUp};
+ghost use Rattle.open_database.specs.ClosedVolume.{IsOfClosed, IsRenewed, WasCopied, WasRenewed};
 ghost use Rattle.open_database.specs.declared.open.OpenEnd.TheVariants.{Failed, Well};
 
 use crate::begin::begin;
@@ -49,8 +51,8 @@ const MOST_RECORDS: u64 = MAX_RECORDS as u64 / 2;
 const UNFINISHED: &str = ".unfinished-1";
 
 /// Makes a new database of the numbers of a closed one: it has as many pages, each slot has the
-/// number that was committed in the old one, and its log begins anew, with a complete checkpoint and
-/// a full copy. The old folder is claimed, read, and left as it is.
+/// number that was committed in the old one, and its log begins anew, with a complete checkpoint
+/// and a full copy. The old folder is claimed, read, and left as it is.
 ///
 /// The new folder is made under another name. It gets its own once it is closed and was read again,
 /// with the same number in each slot: so it is whole, or not there.
@@ -166,6 +168,7 @@ fn filled(rt: &HostRuntime, path: &str, pages: &[Page]) -> OpenEnd
 /// The only life of the new database, until it is closed.
 fn lived(rt: &HostRuntime, path: &str, pages: &[Page]) -> OpenEnd
     requires { IsPageCount (length pages.now) }
+    ensures { result ≡ Well → WasCopied }
 {
     let (notes, store_notes) = (Notes::new(), Notes::new());
     let teller = Teller::new(rt, path);
@@ -216,16 +219,17 @@ fn finished<'a, S: PageStore + Drop>(
     folder: SystemDatabase<'a>,
     notes: (&'a Notes, &'a Notes),
     begun: (Engine<S, FileLog>, Pending, DatabaseName),
-) -> OpenEnd {
+) -> OpenEnd
+    ensures { result ≡ Well → (ended : EngineState) × BacksUp true None begun.0.state ended }
+{
     let (engine, pending, database) = begun;
     let mut kept = KeptManifest::new(teller.alloc, database, engine.log().header_pages());
     let mut session = session_on(teller, folder, notes, engine, pending);
     let written = Notes::new();
-    let copied = checkpoint_and_copy(&mut session, None, &mut output(rt, &written));
+    let copied = checkpoint_and_copy(&mut session, None, &mut output(rt, &written), &written);
     session.close(&mut kept);
-    if copied.is_some() && !session.has_failed {
-        OpenEnd::Well
-    } else {
-        OpenEnd::Failed
+    match copied {
+        Some(_) if !session.has_failed => OpenEnd::Well,
+        _ => OpenEnd::Failed,
     }
 }

@@ -1,7 +1,8 @@
 //! A database that is opened again.
 
-ghost use Rattle.std.specs.Prelude.{◌≡◌, ◌≢◌, ◌⊎◌, [], false, IfErr, IfOk, IsTrue, None, OnOk};
-ghost use Rattle.std.specs.Prelude.{length, map};
+ghost use Rattle.std.specs.Prelude.{◌≡◌, ◌≢◌, ◌⊎◌, ◌↔◌, [], false, IfErr, IfOk, IfSome};
+ghost use Rattle.std.specs.Prelude.{None, OnOk, length, map};
+ghost use Rattle.std.specs.List.Sorted.{IsNonDecreasing};
 ghost use Rattle.buffer_pool.specs.Pool.{IsFrameCount};
 ghost use Rattle.engine_restart.specs.LogFile.{LastsOnFile};
 ghost use Rattle.engine_restart.specs.Restart.{undone_log};
@@ -10,36 +11,36 @@ ghost use Rattle.log_front.specs.Front.{IsFrontOf, end_of};
 ghost use Rattle.log_records.specs.Log.{IsLog, IsPageCount, log_bytes, page_count};
 ghost use Rattle.log_rules.specs.Linked.{IsLinked};
 ghost use Rattle.log_rules.specs.Transactions.{open_in};
-ghost use Rattle.open_database.specs.Closed.{IsVouched, IsWithoutNote, KeepsNote, SpellsNote};
+ghost use Rattle.open_database.specs.Closed.{IsVouched, SpellsNote};
 ghost use Rattle.open_database.specs.Copies.{TakesUp, ids_unread};
-ghost use Rattle.open_database.specs.DatabaseFolder.{HasLogBytes, IsLogIn, Tells};
+ghost use Rattle.open_database.specs.DatabaseFolder.{HasLogBytes, HasNoOtherVolume, IsLogIn};
 ghost use Rattle.saved_files.specs.Folder.{Changes, IsSame, KeepsOthers};
 ghost use Rattle.open_database.specs.Evidence.{LacksNothing};
 ghost use Rattle.open_database.specs.FirstLine.{told_of};
 ghost use Rattle.open_database.specs.Found.{AreFoundIn, IsFoundIn, IsInventoryOf};
-ghost use Rattle.open_database.specs.LeftOut.{IsKept, IsWorthKeeping, WasKept};
+ghost use Rattle.open_database.specs.LeftOut.{IsWorthKeeping, WasKept};
 ghost use Rattle.open_database.specs.LeftOut.{behind};
-ghost use Rattle.open_database.specs.Master.{spelled};
-ghost use Rattle.open_database.specs.Opened.{GoesOnFromFile, GoesOnWith};
-ghost use Rattle.open_database.specs.Refused.{IsRefusal};
+ghost use Rattle.open_database.specs.Master.{IsUnnamed, TellsWrong, spelled};
+ghost use Rattle.open_database.specs.Opened.{GoesOnFromFile, GoesOnWith, HandsOn};
+ghost use Rattle.open_database.specs.Refused.{IsLoss, IsRefusal};
+ghost use Rattle.open_database.specs.Standing.{KeepsFiles};
 ghost use Rattle.open_database.specs.declared.first_line.FirstLine.TheVariants as line;
 
 use crate::begin::code_of;
 use crate::change_fault::ChangeFault;
-use crate::closed_note::{ClosedNote, read_note, remove_note};
+use crate::closed_note::{ClosedNote, read_note};
 use crate::copies::take_up;
 use crate::database_folder::DatabaseFolder;
-use crate::evidence::{Loss, Witness};
+use crate::evidence::Loss;
 use crate::fault::OpenFault;
 use crate::first_line::FirstLine;
 use crate::found_copies::{CopyFile, read_copies};
 use crate::found_manifest::{log_line, name_for, read_manifest};
 use crate::found_master::{FoundMaster, read_master};
 use crate::inventory::Inventory;
-use crate::left_out::put_aside;
 use crate::log_file::{LogFile, found_in};
-use crate::moved_aside::{move_copy_aside, move_manifest_aside, move_master_aside};
-use crate::names::CLOSED;
+use crate::made_ready::{settle, silence};
+use crate::names::{CLOSED, VOLUME};
 use crate::open::OpenCall;
 use crate::place::Place;
 use crate::told::Teller;
@@ -75,9 +76,9 @@ pub(crate) struct Reopened<S: PageStore, D: Disk + Drop> {
 
 /// What was found in a folder, before anything is changed there.
 #[derive(Drop)]
-struct Remains<D: Disk> {
-    log: FoundLog<FileLog<D>>,
-    others: Others,
+pub(crate) struct Remains<D: Disk> {
+    pub log: FoundLog<FileLog<D>>,
+    pub others: Others,
 }
 
 /// What was found beside the log.
@@ -90,8 +91,8 @@ pub(crate) struct Others {
 }
 
 /// Opens a database again from the file of its log, and from those of the copies there that are
-/// sound. The volume is made anew. Where the log lacks what was forced, it is not opened, unless the
-/// call says that what is left is to be opened.
+/// sound. The volume is made anew. Where the log lacks what was forced, it is not opened, unless
+/// the call says that what is left is to be opened.
 pub(crate) fn reopen<F: DatabaseFolder>(
     teller: &Teller<'_>,
     folder: &mut F,
@@ -103,8 +104,14 @@ pub(crate) fn reopen<F: DatabaseFolder>(
     requires claimed { F.is_claimed folder.old }
     requires there { IsLogIn (F.entries folder.old) F.held log }
     requires inventory { IsInventoryOf (F.entries folder.old) there.now }
+    requires rise { IsNonDecreasing there.now.copies.items }
     ensures goes_on { IfOk result (λ it. GoesOnFromFile (F.entries folder.old) call.now.salvage
-        log.len there.now.copies.items it.first it.engine.state) }
+        log.len there.now.copies.items call.now.pages call.now.frames it.first
+        it.engine.state) }
+    ensures kept { call.now.salvage ≡ false
+        → Changes KeepsFiles (F.entries folder.old) (F.entries folder.new) }
+    ensures handed { IfOk result (λ it. HandsOn (F.entries folder.old) call.now.salvage it.first
+        it.engine.state it.unread.items it.point it.is_master_wrong) }
     ensures refused { IfErr result (λ fault. IsRefusal fault
         → Changes IsSame (F.entries folder.old) (F.entries folder.new)) }
     ensures claimed { F.is_claimed folder.new }
@@ -190,8 +197,8 @@ fn note_there<F: DatabaseFolder>(
 }
 
 /// Sees that what was found may be opened, and makes the folder ready for a new life. Until nothing
-/// is found to be wrong, nothing is changed there. Answers the sum of the log's bytes that the manifest
-/// names, if it names some.
+/// is found to be wrong, nothing is changed there. Answers the sum of the log's bytes that the
+/// manifest names, if it names some.
 fn prepare<F: DatabaseFolder>(
     teller: &Teller<'_>,
     folder: &mut F,
@@ -201,12 +208,18 @@ fn prepare<F: DatabaseFolder>(
 ) -> Result<Option<Sums>, OpenFault>
     requires lasting { LastsOnFile remains.old.log.front.log remains.old.log.device }
     requires claimed { F.is_claimed folder.old }
+    requires inventory { IsInventoryOf (F.entries folder.old) there.now }
+    ensures count { OnOk result (IfSome call.now.pages (λ told.
+        told ≡ page_count remains.old.log.front.log)) }
+    ensures volume { OnOk result (HasNoOtherVolume (F.entries folder.old)) }
     ensures whole { OnOk result (call.now.salvage ≡ false
         → LacksNothing (end_of remains.old.log.front.log)
         remains.old.others.note remains.old.others.manifest (spelled remains.old.others.master)
         remains.old.others.copies.items remains.old.log.bytes.items) }
     ensures log { remains.new.log.front.log ≡ remains.old.log.front.log }
     ensures others { remains.new.others ≡ remains.old.others }
+    ensures files { call.now.salvage ≡ false
+        → Changes KeepsFiles (F.entries folder.old) (F.entries folder.new) }
     ensures lasting { OnOk result (LastsOnFile remains.new.log.front.log remains.new.log.device) }
     // What stood behind the log has a file of its own,
     ensures kept { OnOk result (remains.old.log.front.cut ≢ None
@@ -237,7 +250,11 @@ fn checked<F: DatabaseFolder>(
     call: &OpenCall<'_>,
     remains: &Remains<F::LogDisk>,
 ) -> Result<(Loss, Option<Sums>), OpenFault>
-    ensures { OnOk result (call.now.salvage ≡ false
+    ensures count { OnOk result (IfSome call.now.pages (λ told.
+        told ≡ page_count remains.now.log.front.log)) }
+    ensures volume { OnOk result (HasNoOtherVolume (F.entries folder.now)) }
+    ensures none { IfOk result (λ it. call.now.salvage ≡ false → it.0.claims.items ≡ []) }
+    ensures whole { OnOk result (call.now.salvage ≡ false
         → LacksNothing (end_of remains.now.log.front.log)
         remains.now.others.note remains.now.others.manifest (spelled remains.now.others.master)
         remains.now.others.copies.items remains.now.log.bytes.items) }
@@ -248,7 +265,9 @@ fn checked<F: DatabaseFolder>(
 }
 
 /// Whether the volume has as many pages as were told, if a count was told.
-fn check_count(call: &OpenCall<'_>, there: u32) -> Result<(), OpenFault> {
+fn check_count(call: &OpenCall<'_>, there: u32) -> Result<(), OpenFault>
+    ensures { OnOk result (IfSome call.now.pages (λ told. told ≡ there)) }
+{
     match call.pages {
         Some(told) if told != there => Err(OpenFault::OtherCount { there, told }),
         _ => Ok(()),
@@ -262,13 +281,22 @@ fn check_loss<D: Disk>(
     call: &OpenCall<'_>,
     remains: &Remains<D>,
 ) -> Result<(Loss, Option<Sums>), OpenFault>
-    ensures { OnOk result (call.now.salvage ≡ false
+    ensures none { IfOk result (λ it. call.now.salvage ≡ false → it.0.claims.items ≡ []) }
+    ensures whole { OnOk result (call.now.salvage ≡ false
         → LacksNothing (end_of remains.now.log.front.log)
+        remains.now.others.note remains.now.others.manifest (spelled remains.now.others.master)
+        remains.now.others.copies.items remains.now.log.bytes.items) }
+    // A log that lacks nothing is not refused as one that does.
+    ensures refused { IfErr result (λ fault. IsLoss fault
+        → ¬ LacksNothing (end_of remains.now.log.front.log)
         remains.now.others.note remains.now.others.manifest (spelled remains.now.others.master)
         remains.now.others.copies.items remains.now.log.bytes.items) }
 {
     let (found, others) = (&remains.log, &remains.others);
-    let (loss, sums) = loss_of(teller.alloc, &found.front, &found.bytes, others)?;
+    let (loss, sums) = match loss_of(teller.alloc, &found.front, &found.bytes, others) {
+        Ok(heard) => heard,
+        Err(_) => return Err(OpenFault::OutOfMemory),
+    };
     if loss.is_none() {
         return Ok((loss, sums));
     }
@@ -279,16 +307,16 @@ fn check_loss<D: Disk>(
     Err(OpenFault::Lost(loss))
 }
 
-/// Hears all that knows how far a log went whose front in these bytes this is. Answers the sum of the
-/// bytes that the manifest names, too, if the log has them.
+/// Hears all that knows how far a log went whose front in these bytes this is. Answers the sum of
+/// the bytes that the manifest names, too, if the log has them.
 pub(crate) fn loss_of(
     alloc: Global,
     front: &Front,
     bytes: &[u8],
     others: &Others,
 ) -> Result<(Loss, Option<Sums>), AllocError>
-    ensures { IfOk result (λ it. it.0.claims.items ≡ []
-        → LacksNothing (end_of front.now.log) others.now.note others.now.manifest
+    ensures { IfOk result (λ it. (it.0.claims.items ≡ [])
+        ↔ LacksNothing (end_of front.now.log) others.now.note others.now.manifest
         (spelled others.now.master) others.now.copies.items bytes.now) }
 {
     let mut loss = Loss::new(alloc, front.log().end(), front.cut());
@@ -298,131 +326,6 @@ pub(crate) fn loss_of(
     loss.hear_copies(&others.copies)?;
     loss.look_behind(bytes)?;
     Ok((loss, sums))
-}
-
-/// Gives other names to the files that know of more than the log has, so that the next opening is
-/// not refused for what this one went on without.
-fn silence<F: DatabaseFolder>(
-    teller: &Teller<'_>,
-    folder: &mut F,
-    loss: &Loss,
-) -> Result<(), ChangeFault>
-    requires { F.is_claimed folder.old }
-    ensures { F.is_claimed folder.new }
-{
-    for claim in loss.claims.as_slice() {
-        let moved = match claim.witness {
-            Witness::Manifest | Witness::Changed => move_manifest_aside(teller, folder),
-            Witness::Master => move_master_aside(teller, folder),
-            Witness::Begin(id) | Witness::Page(id, _) => {
-                move_copy_aside(teller, folder, id).map(|_| ())
-            }
-            Witness::Closed | Witness::Record => Ok(()),
-        };
-        moved.map_err(ChangeFault::of_folder)?;
-    }
-    Ok(())
-}
-
-/// Makes a folder ready for a new life: what stands behind the log is put aside and then cut off,
-/// and the note of the last closing goes before anything is stored.
-fn settle<F: DatabaseFolder>(
-    teller: &Teller<'_>,
-    folder: &mut F,
-    there: &Inventory,
-    remains: &mut Remains<F::LogDisk>,
-) -> Result<(), ChangeFault>
-    requires lasting { LastsOnFile remains.old.log.front.log remains.old.log.device }
-    requires claimed { F.is_claimed folder.old }
-    ensures log { remains.new.log.front.log ≡ remains.old.log.front.log }
-    ensures others { remains.new.others ≡ remains.old.others }
-    ensures lasting { OnOk result (LastsOnFile remains.new.log.front.log remains.new.log.device) }
-    // What stood behind the log has a file of its own,
-    ensures kept { OnOk result (remains.old.log.front.cut ≢ None
-        → IsWorthKeeping (behind remains.old.log)
-        → WasKept (behind remains.old.log) (F.entries folder.new)) }
-    // and is gone from the log's for certain, before any record is stored there.
-    ensures alone { OnOk result (remains.old.log.front.cut ≢ None
-        → bytes_of remains.new.log.device ≡ log_bytes remains.new.log.front.log) }
-    // No note of a closing stands there from now on.
-    ensures gone { OnOk result (Tells (F.entries folder.old) CLOSED.now there.now.has_closed
-        → IsWithoutNote (F.entries folder.new)) }
-    // What the log's file gave is taken at its word only where the last closing vouches for it.
-    ensures vouched { OnOk result ((remains.new.log.device.is_read ≡ false)
-        ⊎ IsVouched remains.old.others.note (end_of remains.old.log.front.log)) }
-    ensures claimed { F.is_claimed folder.new }
-{
-    keep_behind(teller, folder, &remains.log)?;
-    forget_closing(folder, there)?;
-    let found = &mut remains.log;
-    let (front, note) = (&found.front, remains.others.note);
-    if front.cut().is_some() || !is_vouched(note, front.log().end()) {
-        keep_front(found)?;
-    }
-    Ok(())
-}
-
-/// Keeps what stands behind the log in a file of its own.
-fn keep_behind<F: DatabaseFolder>(
-    teller: &Teller<'_>,
-    folder: &mut F,
-    found: &FoundLog<FileLog<F::LogDisk>>,
-) -> Result<(), ChangeFault>
-    requires { F.is_claimed folder.old }
-    ensures kept { OnOk result (found.now.front.cut ≢ None → IsWorthKeeping (behind found.now)
-        → IsKept (F.entries folder.old) (behind found.now) (F.entries folder.new)) }
-    ensures note { OnOk result (KeepsNote (F.entries folder.old) (F.entries folder.new)) }
-    ensures claimed { F.is_claimed folder.new }
-{
-    match found.front.cut() {
-        Some(cut) => {
-            teller.tell_cut(&cut, found.behind().len());
-            put_aside(teller, folder, found.behind())
-        }
-        None => Ok(()),
-    }
-}
-
-/// Removes the note of the last closing, if there is one.
-fn forget_closing<F: DatabaseFolder>(folder: &mut F, there: &Inventory) -> Result<(), ChangeFault>
-    requires { F.is_claimed folder.old }
-    // Where it is known whether one stood there, none does now; and it is gone for certain.
-    ensures gone { OnOk result (Tells (F.entries folder.old) CLOSED.now there.now.has_closed
-        → IsWithoutNote (F.entries folder.new)) }
-    ensures stored { OnOk result (IsTrue there.now.has_closed → F.is_stored folder.new) }
-    ensures others { OnOk result
-        (Changes (KeepsOthers CLOSED.now) (F.entries folder.old) (F.entries folder.new)) }
-    ensures claimed { F.is_claimed folder.new }
-{
-    if there.has_closed {
-        remove_note(folder)
-    } else {
-        Ok(())
-    }
-}
-
-/// Stores the log again, and has it alone last on its file.
-fn keep_front<D: Disk + Drop>(found: &mut FoundLog<FileLog<D>>) -> Result<(), ChangeFault>
-    ensures front { found.new.front ≡ found.old.front }
-    ensures lasting { OnOk result (LastsOnFile found.new.front.log found.new.device) }
-    ensures alone { OnOk result
-        (bytes_of found.new.device ≡ log_bytes found.new.front.log) }
-    ensures written { OnOk result (found.new.device.is_read ≡ false) }
-{
-    match found.keep_front() {
-        Ok(()) => Ok(()),
-        Err(_) => Err(ChangeFault::System(Place::Log, code_of(found.device.error()))),
-    }
-}
-
-/// Whether the note of a clean closing says that the log lasts to its end.
-pub(crate) fn is_vouched(note: Option<ClosedNote>, end: Lsn) -> bool
-    ensures { IsTrue result → IsVouched note end }
-{
-    match note {
-        Some(note) => note.end == end,
-        None => false,
-    }
 }
 
 /// Goes on from what was found.
@@ -438,8 +341,17 @@ fn go_on<F: DatabaseFolder>(
     requires claimed { F.is_claimed folder.old }
     ensures goes_on { IfOk result (λ it.
         GoesOnWith found.front.log beside.0.copies.items it.engine.state) }
+    ensures frames { IfOk result (λ it. it.engine.state.frames ≡ call.now.frames) }
     ensures told { IfOk result (λ it. it.first ≡ told_of found.front.log it.engine.state) }
     ensures unread { IfOk result (λ it. it.unread.items ≡ ids_unread beside.0.copies.items) }
+    // Its master record is to be put.
+    ensures point { IfOk result (λ it.
+        IsUnnamed found.front.log (spelled beside.0.master) it.point) }
+    // What stands there instead is to be moved aside.
+    ensures wrong { IfOk result (λ it.
+        TellsWrong found.front.log (spelled beside.0.master) it.is_master_wrong) }
+    ensures others { Changes (KeepsOthers VOLUME.now)
+        (F.entries folder.old) (F.entries folder.new) }
     ensures claimed { F.is_claimed folder.new }
 {
     let (others, database) = beside;
@@ -479,6 +391,8 @@ impl Facts {
         ensures log { IsLog front.now.log }
         ensures cut { result.end ≡ end_of front.now.log }
         ensures open { result.taken_back ≡ length (open_in front.now.log.records) }
+        ensures unnamed { IsUnnamed front.now.log (spelled master.now) result.unnamed }
+        ensures wrong { TellsWrong front.now.log (spelled master.now) result.is_master_wrong }
     {
         let log = front.log();
         let last = LogCheckpoints::of(front.analysis()).last;
@@ -541,6 +455,8 @@ fn equip<F: DatabaseFolder>(
     ensures taken { OnOk result (TakesUp end restarted.old copies.items restarted.new) }
     ensures unread { IfOk result (λ it. it.1.items ≡ ids_unread copies.items) }
     ensures store { IfOk result (λ it. F.Volume.stored it.0 ≡ restarted.new.pages) }
+    ensures others { Changes (KeepsOthers VOLUME.now)
+        (F.entries folder.old) (F.entries folder.new) }
     ensures claimed { F.is_claimed folder.new }
 {
     let unread = take_up(teller, restarted, end, copies)?;

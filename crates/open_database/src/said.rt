@@ -1,8 +1,8 @@
 //! What a line is answered.
 
-ghost use Rattle.std.specs.Prelude.{◌≡◌, false, IfErr, OnOk};
+ghost use Rattle.std.specs.Prelude.{◌≡◌, ◌↔◌, false, Err, IfErr, IsTrue, OnOk};
 ghost use Rattle.std.specs.Io.KnownBytes.{Appends};
-ghost use Rattle.open_database.specs.Said.{IsAnswer, said_line};
+ghost use Rattle.open_database.specs.Said.{IsAnswer, IsFault, said_line};
 ghost use Rattle.open_database.specs.Session.{LeavesLine};
 
 use crate::session::ServeFault;
@@ -27,19 +27,30 @@ pub(crate) enum Said {
 impl Said {
     /// Whether the call was refused, or did not come to its end.
     pub fn is_refused(&self) -> bool
-        ensures { result ≡ false → IsAnswer self.now }
+        ensures { result ≡ false ↔ IsAnswer self.now }
     {
         !matches!(self, Said::Reply(Ok(_)))
     }
 
     /// Whether a file failed.
-    pub fn is_fault(&self) -> bool {
+    pub fn is_fault(&self) -> bool
+        ensures { IsTrue result ↔ IsFault self.now }
+    {
         match self {
             Said::Unplaced(_) => true,
-            Said::Reply(Err(Refusal::StoreFault | Refusal::LogFault | Refusal::CommitUnsure(_))) =>
-                true,
-            Said::Reply(_) => false,
+            Said::Reply(Err(why)) => is_fault(*why),
+            Said::Reply(Ok(_)) => false,
         }
+    }
+}
+
+/// Whether a call was refused since a file failed.
+fn is_fault(why: Refusal) -> bool
+    ensures { IsTrue result ↔ IsFault (Said.Reply (Err why)) }
+{
+    match why {
+        Refusal::StoreFault | Refusal::LogFault | Refusal::CommitUnsure(_) => true,
+        _ => false,
     }
 }
 

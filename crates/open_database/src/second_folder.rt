@@ -7,11 +7,11 @@ ghost use Rattle.saved_files.specs.Saved.{name_of};
 ghost use Rattle.saved_files.specs.declared.saved_name.SavedName.TheVariants as saved;
 ghost use Rattle.open_database.specs.Backups.{AddsCopies, AddsFiles, AreBackedUp, FillsCopies};
 ghost use Rattle.open_database.specs.Backups.{FillsCopy, IsBackup, IsCopyOf, IsOfSame, KeepsBut};
-ghost use Rattle.open_database.specs.Backups.{KeepsFinished, KeepsOrPuts, KeepsOtherFiles};
-ghost use Rattle.open_database.specs.Backups.{KeepsTheRest};
+ghost use Rattle.open_database.specs.Backups.{KeepsOrPuts, KeepsOtherFiles, KeepsTheRest};
 ghost use Rattle.open_database.specs.Backups.{NotesCopies, NotesOnly, PutsManifestLast};
 ghost use Rattle.open_database.specs.DatabaseFolder.{HasBytes, Reads};
-ghost use Rattle.open_database.specs.Kept.{Names};
+ghost use Rattle.open_database.specs.Kept.{Names, TakesLines, extent_of};
+ghost use Rattle.open_database.specs.Standing.{KeepsFinished};
 ghost use Rattle.open_database.specs.declared.fault.OpenFault.TheVariants as fault;
 ghost use Rattle.open_database.specs.declared.place.Place.TheVariants as place;
 
@@ -32,9 +32,9 @@ use std::alloc::Global;
 use std::io::ErrorKind;
 
 /// Puts the log, the master record and these copies of a database into a second folder, each whole
-/// and synced, or not there, and then a manifest that names them. A copy that is there already stays.
-/// What is there of another database is not touched: the manifest there has to be of this one, the log
-/// there has to be the beginning of this one's, and each copy the same.
+/// and synced, or not there, and then a manifest that names them. A copy that is there already
+/// stays. What is there of another database is not touched: the manifest there has to be of this
+/// one, the log there has to be the beginning of this one's, and each copy the same.
 pub(crate) fn put_beside<O: DatabaseFolder, F: DatabaseFolder>(
     teller: &Teller<'_>,
     from: &O,
@@ -58,14 +58,17 @@ pub(crate) fn put_beside<O: DatabaseFolder, F: DatabaseFolder>(
     fill(alloc, from, folder, copies, &log, manifest)
 }
 
-/// The manifest of a second folder, which has to be of this database, without the lines of files that
-/// are gone; or a new one.
+/// The manifest of a second folder, which has to be of this database, without the lines of files
+/// that are gone; or a new one.
 fn manifest_beside<F: DatabaseFolder>(
     teller: &Teller<'_>,
     folder: &F,
     database: DatabaseName,
 ) -> Result<Manifest, OpenFault>
-    ensures { IfOk result (λ it. it.database ≡ database.0) }
+    // Nobody else puts files there meanwhile.
+    requires { F.is_claimed folder.now }
+    ensures database { IfOk result (λ it. it.database ≡ database.0) }
+    ensures lines { IfOk result (λ it. TakesLines (F.entries folder.now) it.entries) }
 {
     let alloc = teller.alloc;
     let is_there = folder.has(MANIFEST).map_err(OpenFault::of_folder)?;
@@ -160,6 +163,7 @@ fn check_all<O: DatabaseFolder, F: DatabaseFolder>(
     copies: &[CopyId],
     log: &[u8],
 ) -> Result<(), OpenFault>
+    requires { F.is_claimed folder.now }
     ensures { OnOk result
         (IfSome (F.entries folder.now) (IsOfSame (O.entries from.now) log.now copies.now)) }
 {
@@ -342,6 +346,16 @@ fn put<F: Folder>(
     }
 }
 
+/// How much of a file is summed.
+fn extent_of(name: &SavedName) -> Extent
+    ensures { result ≡ extent_of (name_of name.now) }
+{
+    match name {
+        SavedName::Log => Extent::First,
+        SavedName::Master | SavedName::Copy(_) => Extent::Whole,
+    }
+}
+
 /// Notes that a file has these bytes.
 fn note(
     alloc: Global,
@@ -356,10 +370,7 @@ fn note(
     ensures database { OnOk result (manifest.new.database ≡ manifest.old.database) }
 {
     let text = format!(in alloc; "{name}")?;
-    let extent = match name {
-        SavedName::Log => Extent::First,
-        _ => Extent::Whole,
-    };
+    let extent = extent_of(&name);
     let FileSum { bytes, sum, .. } = sum_of(bytes);
     match note_file(manifest, text.as_str(), FileSum { extent, bytes, sum }) {
         Ok(()) => Ok(()),

@@ -1,10 +1,11 @@
 //! The lines of an open database: each is a call of its engine, and is answered at once.
 
-ghost use Rattle.std.specs.Prelude.{◌≡◌, IfErr, OnOk};
+ghost use Rattle.std.specs.Prelude.{◌≡◌, IfErr, OnOk, true};
 ghost use Rattle.open_database.specs.Calls.{Makes};
-ghost use Rattle.open_database.specs.MadeFiles.{IsGiven, IsInPlace, IsStoredFor, StandsOnPlaced};
-ghost use Rattle.open_database.specs.MadeFiles.{WaitsFor};
+ghost use Rattle.open_database.specs.MadeFiles.{IsBegunAtOnce, IsGiven, IsInPlace, IsStoredFor};
+ghost use Rattle.open_database.specs.MadeFiles.{StandsOnPlaced, WaitsFor};
 ghost use Rattle.open_database.specs.Lines.{bytes_left};
+ghost use Rattle.open_database.specs.Said.{IsFault};
 ghost use Rattle.open_database.specs.Session.{Answers, LeavesAnswer, LeavesBad, LeavesServed};
 ghost use Rattle.open_database.specs.Session.{LeavesTaken, ServesAll, Takes, WritesBad};
 
@@ -101,9 +102,11 @@ fn write_bad<W: Write>(
     writer: &mut W,
 ) -> Result<(), ServeFault>
     ensures written { OnOk result
-        (WritesBad number (W.contents writer.old) (W.contents writer.new)) }
+        (WritesBad number bad.now.why
+        (W.contents writer.old) (W.contents writer.new)) }
     ensures left { IfErr result
-        (LeavesBad number (W.contents writer.old) (W.contents writer.new)) }
+        (LeavesBad number bad.now.why
+        (W.contents writer.old) (W.contents writer.new)) }
 {
     let Ok(why) = format!(in alloc; "{bad}") else {
         return Err(ServeFault::OutOfMemory);
@@ -119,8 +122,8 @@ fn write_bad<W: Write>(
 
 impl<F: DatabaseFolder, S: PageStore, D: LogDevice + TellsWhy> Session<'_, F, S, D> {
     /// Takes the lines of the input one after another, to its end, or to a `quit`. Each is answered
-    /// by one line or more, but for those that say nothing. The manifest names a file that a line put
-    /// in place once that line is answered. After 2^64 - 2 lines it gives up.
+    /// by one line or more, but for those that say nothing. The manifest names a file that a line
+    /// put in place once that line is answered. After 2^64 - 2 lines it gives up.
     pub fn serve<R: Read + Drop, W: Write>(
         &mut self,
         lines: &mut LineReader<R>,
@@ -190,9 +193,11 @@ impl<F: DatabaseFolder, S: PageStore, D: LogDevice + TellsWhy> Session<'_, F, S,
         writer: &mut W,
     ) -> Result<(), ServeFault>
         ensures written { OnOk result
-            (WritesBad number (W.contents writer.old) (W.contents writer.new)) }
+            (WritesBad number bad.now.why
+            (W.contents writer.old) (W.contents writer.new)) }
         ensures left { IfErr result
-            (LeavesBad number (W.contents writer.old) (W.contents writer.new)) }
+            (LeavesBad number bad.now.why
+            (W.contents writer.old) (W.contents writer.new)) }
         ensures engine { self.new.engine ≡ self.old.engine }
         ensures folder { self.new.folder ≡ self.old.folder }
     {
@@ -235,6 +240,8 @@ impl<F: DatabaseFolder, S: PageStore, D: LogDevice + TellsWhy> Session<'_, F, S,
         ensures waits { WaitsFor event result self.new.pending }
         ensures stands { StandsOnPlaced event result self.old.pending }
         ensures given { IsGiven event result self.old.unread.items }
+        ensures once { IsBegunAtOnce event self.old.unread.items self.old.pending
+            self.old.engine.state result self.new.engine.state }
         ensures claimed { F.is_claimed self.new.folder }
     {
         match CallKind::of(&event) {
@@ -248,6 +255,7 @@ impl<F: DatabaseFolder, S: PageStore, D: LogDevice + TellsWhy> Session<'_, F, S,
 
     /// Takes note of an answer, and tells a person why a file failed.
     pub(crate) fn note(&mut self, number: u64, said: &Said)
+        ensures failed { IsFault said.now → self.new.has_failed ≡ true }
         ensures engine { self.new.engine ≡ self.old.engine }
         ensures folder { self.new.folder ≡ self.old.folder }
     {

@@ -1,8 +1,9 @@
 //! What `status` tells of a database.
 
-ghost use Rattle.std.specs.Prelude.{ℕ, ◌≡◌, IfErr, List, OnOk};
+ghost use Rattle.std.specs.Prelude.{ℕ, ◌≡◌, IfErr, IfOk, List, OnOk, string_bytes};
 ghost use Rattle.std.specs.Io.KnownBytes.{Appends};
 ghost use Rattle.open_database.specs.Session.{LeavesLine};
+ghost use Rattle.open_database.specs.Words.{IsStatus};
 
 use crate::session::{ServeFault, Session, TellsWhy};
 use crate::word_said::write_text;
@@ -24,9 +25,9 @@ impl<F: Folder, S: PageStore, D: LogDevice + TellsWhy> Session<'_, F, S, D> {
         number: u64,
         writer: &mut W,
     ) -> Result<(), ServeFault>
-        ensures ok { OnOk result ((text : List ℕ)
+        ensures ok { OnOk result ((text : List ℕ) × IsStatus text
             × Appends (W.contents writer.old) (W.contents writer.new) text) }
-        ensures err { IfErr result (λ fault. (text : List ℕ)
+        ensures err { IfErr result (λ fault. (text : List ℕ) × IsStatus text
             × LeavesLine (W.contents writer.old) (W.contents writer.new) text fault) }
         ensures engine { self.new.engine ≡ self.old.engine }
         ensures folder { self.new.folder ≡ self.old.folder }
@@ -39,12 +40,14 @@ impl<F: Folder, S: PageStore, D: LogDevice + TellsWhy> Session<'_, F, S, D> {
     }
 }
 
-/// Lines of the pages and the records, of what is open and dirty, and of the last checkpoint and the
-/// complete copies.
+/// Lines of the pages and the records, of what is open and dirty, and of the last checkpoint and
+/// the complete copies.
 fn status_of<S: PageStore, D: LogDevice>(
     alloc: Global,
     engine: &Engine<S, D>,
-) -> Result<String, AllocError> {
+) -> Result<String, AllocError>
+    ensures { IfOk result (λ text. IsStatus (string_bytes text)) }
+{
     let log = engine.log();
     let (pages, records) = (log.pages(), log.records().len());
     let left = MAX_RECORDS.saturating_sub(records);

@@ -241,7 +241,8 @@ impl<'a> DatabaseFolder for SystemDatabase<'a> {
     }
 }
 
-/// Reads the first bytes of a file, as many as the buffer has room for, and says how many these are.
+/// Reads the first bytes of a file, as many as the buffer has room for, and says how many these
+/// are.
 fn first_bytes(file: &File, bytes: &mut [u8]) -> io::Result<usize> {
     let mut len = 0usize;
     for _ in 0..=bytes.len() {

@@ -2,8 +2,8 @@
 
 use std::fmt;
 
-/// How many lines were answered, and how many of them by a refusal, or since they were no calls. Its
-/// text is a line for a person.
+/// How many lines were answered, and how many of them by a refusal, or since they were no calls.
+/// Its text is a line for a person.
 #[derive(Clone, Copy, Debug)]
 pub(crate) struct Tally {
     lines: u64,
@@ -13,6 +13,7 @@ pub(crate) struct Tally {
 }
 
 impl Tally {
+    /// No line was taken.
     pub fn new() -> Tally {
         Tally {
             lines: 0,

@@ -1,7 +1,7 @@
 //! A checkpoint whose master record is not in place.
 
 ghost use Rattle.std.specs.Prelude.{◌≡◌};
-ghost use Rattle.open_database.specs.MadeFiles.{answer_of};
+ghost use Rattle.open_database.specs.Pending.{answer_of};
 
 use aries_core::Answer;
 use log_store::Master;

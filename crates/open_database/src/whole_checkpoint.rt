@@ -1,7 +1,12 @@
 //! A checkpoint that is made by one word.
 
-ghost use Rattle.std.specs.Prelude.{IfErr, OnOk};
-ghost use Rattle.open_database.specs.MadeFiles.{EndsCheckpoint, IsInPlace, IsStoredFor};
+ghost use Rattle.std.specs.Prelude.{◌≡◌, IfErr, OnOk, true};
+ghost use Rattle.saved_files.specs.Saved.{name_of};
+ghost use Rattle.saved_files.specs.declared.saved_name.SavedName.TheVariants as saved;
+ghost use Rattle.open_database.specs.MadeFiles.{EndsCheckpoint, IfPoint, IsInPlace, IsStoredFor};
+ghost use Rattle.open_database.specs.MadeFiles.{is_master};
+ghost use Rattle.open_database.specs.MovedAside.{PutsAside};
+ghost use Rattle.open_database.specs.Pending.{PointWaitsUnlessPlaced};
 ghost use Rattle.open_database.specs.Words.{AreRefused, GatherSteps, Gathers, GathersAll};
 ghost use Rattle.open_database.specs.Words.{IsOfCheckpoint, MakesWord, Runs, one_line};
 ghost use Rattle.open_database.specs.declared.word.Word.TheVariants as word;
@@ -12,7 +17,6 @@ use crate::database_folder::DatabaseFolder;
 use crate::page_writes::write_pages;
 use crate::said::Said;
 use crate::session::{Session, TellsWhy};
-use crate::unplaced_point::UnplacedPoint;
 use aries_core::{Engine, Gathered, Refusal};
 use log_store::LogDevice;
 use page_core::MAX_PAGES;
@@ -28,6 +32,12 @@ impl<F: DatabaseFolder, S: PageStore, D: LogDevice + TellsWhy> Session<'_, F, S,
         ensures in_place { IsInPlace event.CkptEnd result self.new.engine.state
             (F.entries self.new.folder) }
         ensures stored { IsStoredFor event.CkptEnd result (F.is_stored self.new.folder) }
+        ensures waits { PointWaitsUnlessPlaced self.old.point result self.new.point }
+        ensures kept { IfPoint result (λ begin end. PutsAside (self.old.is_master_wrong ≡ true)
+            (name_of saved.Master) (is_master begin end)
+            (F.entries self.old.folder) (F.entries self.new.folder)) }
+        ensures pending { self.new.pending ≡ self.old.pending }
+        ensures unread { self.new.unread ≡ self.old.unread }
         ensures claimed { F.is_claimed self.new.folder }
     {
         match gathered(&mut self.engine) {
@@ -43,18 +53,16 @@ impl<F: DatabaseFolder, S: PageStore, D: LogDevice + TellsWhy> Session<'_, F, S,
         ensures in_place { IsInPlace event.CkptEnd result self.new.engine.state
             (F.entries self.new.folder) }
         ensures stored { IsStoredFor event.CkptEnd result (F.is_stored self.new.folder) }
+        ensures waits { PointWaitsUnlessPlaced self.old.point result self.new.point }
+        ensures kept { IfPoint result (λ begin end. PutsAside (self.old.is_master_wrong ≡ true)
+            (name_of saved.Master) (is_master begin end)
+            (F.entries self.old.folder) (F.entries self.new.folder)) }
+        ensures pending { self.new.pending ≡ self.old.pending }
+        ensures unread { self.new.unread ≡ self.old.unread }
         ensures claimed { F.is_claimed self.new.folder }
     {
         match self.engine.ckpt_end() {
-            Ok(point) => {
-                let point = UnplacedPoint {
-                    begin: point.begin.0,
-                    end: point.end.0,
-                    redo: point.redo.0,
-                };
-                self.point = Some(point);
-                self.place_point(&point)
-            }
+            Ok(point) => self.place_ended(point),
             Err(why) => Said::Reply(Err(why)),
         }
     }
@@ -72,7 +80,7 @@ fn gathered<S: PageStore, D: LogDevice>(engine: &mut Engine<S, D>) -> Result<(),
     }
 }
 
-/// Begins a checkpoint, and gathers all that it has to.
+/// Begins a checkpoint, or goes on with one that is open, and gathers all that it has to.
 fn begin_gathered<S: PageStore, D: LogDevice>(engine: &mut Engine<S, D>) -> Result<(), Refusal>
     ensures gathered { OnOk result (Runs Gathers engine.old.state engine.new.state) }
     ensures refused { IfErr result (λ why.
@@ -80,6 +88,7 @@ fn begin_gathered<S: PageStore, D: LogDevice>(engine: &mut Engine<S, D>) -> Resu
 {
     match engine.ckpt_begin() {
         Ok(_) => gather_all(engine),
+        Err(Refusal::CkptOpen) => gather_all(engine),
         Err(why) => Err(why),
     }
 }

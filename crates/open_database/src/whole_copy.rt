@@ -1,12 +1,20 @@
 //! A copy of all pages, which is made by one word.
 
-ghost use Rattle.std.specs.Prelude.{ℕ, ◌≡◌, ◌≢◌, IfSome, None, Ok};
+ghost use Rattle.std.specs.Prelude.{ℕ, ◌≡◌, ◌≢◌, Err, IfSome, IsTrue, None, Ok};
+ghost use Rattle.std.specs.List.{Contains};
 ghost use Rattle.engine_calls.specs.declared.event.Answer.TheVariants.{Copied, Sealed};
+ghost use Rattle.engine_calls.specs.declared.refusal.Refusal.TheVariants as refusal;
 ghost use Rattle.open_database.specs.Calls.{Makes, copy_call};
-ghost use Rattle.open_database.specs.MadeFiles.{HasPlaced, HasStored, IsCopyInPlace, IsCopyStored};
-ghost use Rattle.open_database.specs.WordCopies.{BeginsAndFills, FillsCopy, SealsCopy};
+ghost use Rattle.open_database.specs.MadeFiles.{CopyStandsOnPlaced, HasPlaced, HasStored, IsCopy};
+ghost use Rattle.open_database.specs.MadeFiles.{IsBehindPoint, IsCopyGiven, IsCopyInPlace};
+ghost use Rattle.open_database.specs.MadeFiles.{IsCopyStored, ItsFileWaits, SomeCopyWaits};
+ghost use Rattle.open_database.specs.MadeFiles.{WaitsUnlessCopied};
+ghost use Rattle.open_database.specs.Pending.{Waits};
+ghost use Rattle.open_database.specs.Said.{IsReply};
+ghost use Rattle.open_database.specs.WordCopies.{BeginsAndFills, FillsCopy, IsPointNew, SealsCopy};
 ghost use Rattle.open_database.specs.Words.{MakesWord, Runs, one_line};
 ghost use Rattle.open_database.specs.declared.word.Word.TheVariants as word;
+ghost use Rattle.open_database.specs.declared.word_said.WordSaid.TheVariants as word_said;
 
 use crate::database_folder::DatabaseFolder;
 use crate::made_files::copied_id;
@@ -23,17 +31,26 @@ use page_core::PageNo;
 use page_store::PageStore;
 
 impl<F: DatabaseFolder, S: PageStore, D: LogDevice + TellsWhy> Session<'_, F, S, D> {
-    /// Makes a whole copy, a full one or one on this parent, behind a checkpoint that is new. Where a
-    /// call is refused, none is made behind it but the one that drops the copy.
+    /// Makes a whole copy, a full one or one on this parent, behind a checkpoint that is new. Where
+    /// a call is refused, none is made behind it but the one that drops the copy.
     pub(crate) fn copy(&mut self, parent: Option<u32>) -> WordSaid
         requires { F.is_claimed self.old.folder }
         ensures made { MakesWord (word.Copy parent) self.old.engine.state (one_line result)
+            self.new.engine.state }
+        // The checkpoint before it is made, unless the last one is new.
+        ensures behind { IsBehindPoint parent self.old.point self.old.engine.state result
             self.new.engine.state }
         // Where a copy is told, its file is in place, and its name lasts.
         ensures in_place { HasPlaced (word.Copy parent) (one_line result) self.new.engine.state
             (F.entries self.new.folder) }
         ensures stored { HasStored (word.Copy parent) (one_line result)
             (F.is_stored self.new.folder) }
+        // Where it is not, the copy waits for it. No copy stands on that one.
+        ensures waits { ItsFileWaits result self.new.pending self.old.engine.state
+            self.new.engine.state }
+        ensures stands { CopyStandsOnPlaced parent result self.old.pending
+            self.old.engine.state self.new.engine.state }
+        ensures given { IsCopyGiven result self.old.unread.items }
         ensures claimed { F.is_claimed self.new.folder }
     {
         if self.is_point_new() {
@@ -46,9 +63,13 @@ impl<F: DatabaseFolder, S: PageStore, D: LogDevice + TellsWhy> Session<'_, F, S,
         }
     }
 
-    /// Whether the log ends with the last checkpoint, whose redo point is its begin and whose master
-    /// record is in place, and no page is dirty: another one would begin redo at nothing later.
-    fn is_point_new(&self) -> bool {
+    /// Whether the log ends with the last checkpoint, whose redo point is its begin and whose
+    /// master record is in place, and no page is dirty: another one would begin redo at nothing
+    /// later.
+    fn is_point_new(&self) -> bool
+        ensures new { IsTrue result → IsPointNew self.now.engine.state }
+        ensures placed { IsTrue result → self.now.point ≡ None }
+    {
         let Some(point) = self.engine.master() else {
             return false;
         };
@@ -66,6 +87,13 @@ impl<F: DatabaseFolder, S: PageStore, D: LogDevice + TellsWhy> Session<'_, F, S,
         ensures in_place { IsCopyInPlace result self.new.engine.state
             (F.entries self.new.folder) }
         ensures stored { IsCopyStored result (F.is_stored self.new.folder) }
+        ensures stands { IfSome parent (λ id. Waits self.old.pending id
+            → result ≡ word_said.Call (Said.Reply (Err refusal.CopyNotComplete))) }
+        ensures same { IfSome parent (λ id. Waits self.old.pending id
+            → self.new.engine ≡ self.old.engine) }
+        ensures given { IsCopyGiven result self.old.unread.items }
+        ensures waits { SomeCopyWaits result self.new.pending self.old.engine.state
+            self.new.engine.state }
         ensures claimed { F.is_claimed self.new.folder }
     {
         let begun = self.begin_on(parent);
@@ -79,6 +107,12 @@ impl<F: DatabaseFolder, S: PageStore, D: LogDevice + TellsWhy> Session<'_, F, S,
     fn begin_on(&mut self, parent: Option<u32>) -> Said
         ensures made { Makes (copy_call parent) self.old.engine.state result
             self.new.engine.state }
+        ensures stands { IfSome parent (λ id. Waits self.old.pending id
+            → result ≡ Said.Reply (Err refusal.CopyNotComplete)) }
+        ensures same { IfSome parent (λ id. Waits self.old.pending id
+            → self.new.engine ≡ self.old.engine) }
+        ensures given { IsCopy result (λ id. ¬ Contains self.old.unread.items id) }
+        ensures replied { IsReply result }
         ensures folder { self.new.folder ≡ self.old.folder }
     {
         match parent {
@@ -95,6 +129,8 @@ impl<F: DatabaseFolder, S: PageStore, D: LogDevice + TellsWhy> Session<'_, F, S,
         ensures in_place { IsCopyInPlace result self.new.engine.state
             (F.entries self.new.folder) }
         ensures stored { IsCopyStored result (F.is_stored self.new.folder) }
+        ensures waits { WaitsUnlessCopied id result self.new.pending self.old.engine.state
+            self.new.engine.state }
         ensures claimed { F.is_claimed self.new.folder }
     {
         match take_or_drop(&mut self.engine, &self.teller, id) {
@@ -111,6 +147,9 @@ impl<F: DatabaseFolder, S: PageStore, D: LogDevice + TellsWhy> Session<'_, F, S,
         ensures in_place { IsCopyInPlace result self.new.engine.state
             (F.entries self.new.folder) }
         ensures stored { IsCopyStored result (F.is_stored self.new.folder) }
+        // A copy whose file is not in place waits for it from then on.
+        ensures waits { WaitsUnlessCopied id result self.new.pending self.old.engine.state
+            self.new.engine.state }
         ensures claimed { F.is_claimed self.new.folder }
     {
         match self.complete(id) {
@@ -120,7 +159,7 @@ impl<F: DatabaseFolder, S: PageStore, D: LogDevice + TellsWhy> Session<'_, F, S,
                     pages,
                     taken: taken_of(&answer),
                 },
-                Said::Unplaced(why) => WordSaid::Call(Said::Unplaced(why)),
+                Said::Unplaced(fault) => WordSaid::Call(Said::Unplaced(fault)),
             },
             Err(why) => {
                 let _ = self.engine.apply(Event::DropCopy(CopyId(id)));

@@ -1,10 +1,14 @@
 //! Words of an operator, which no script has.
 
-ghost use Rattle.std.specs.Prelude.{ℕ, ◌≡◌, ◌↔◌, ◌++◌, List, IfSome, IsTrue, MatchResult, Some, codes};
+ghost use Rattle.std.specs.Prelude.{ℕ, ◌≡◌, ◌≢◌, ◌<◌, ◌↔◌, List, Option, IfSome, IsTrue};
+ghost use Rattle.std.specs.Prelude.{MatchResult, None, Some, codes};
 ghost use Rattle.std.specs.List.{Contains};
 ghost use Rattle.event_script.specs.Words.{number_of};
-ghost use Rattle.open_database.specs.Session.{IsNoOrder};
-ghost use Rattle.open_database.specs.Words.{BeginsAsWord, IsSpelled, Spells, SpellsText, first_words};
+ghost use Rattle.open_database.specs.Session.{IsNoCall, IsNoOrder};
+ghost use Rattle.open_database.specs.Words.{BeginsAsWord, HasFirstWord, IsNoWord, IsSpelled};
+ghost use Rattle.open_database.specs.Words.{Spells, SpellsText, first_words};
+ghost use Rattle.open_database.specs.declared.word.Word.{Word};
+ghost use Rattle.open_database.specs.declared.word.Word.TheVariants.{Copy};
 
 use crate::bad_call::LineTrouble;
 
@@ -28,13 +32,14 @@ pub(crate) enum Word {
 
 /// The word that a line says, or what is wrong with a line whose first word is one.
 pub(crate) fn word_in(line: &[u8]) -> Option<Result<Word, LineTrouble>>
-    ensures { IfSome result (λ it. MatchResult it (Spells line.now) (IsNoOrder line.now)) }
+    ensures said { IfSome result (λ it. MatchResult it (Spells line.now) (IsNoOrder line.now)) }
+    ensures none { result ≡ None → IsNoWord line.now }
 {
     let text = line.trim_ascii();
-    if let Some(word) = lone_word(text) {
-        return Some(Ok(word));
+    match lone_word(text) {
+        Some(word) => Some(Ok(word)),
+        None => Some(Err(trouble_of(first_word(text))?)),
     }
-    Some(Err(trouble_of(first_word(text))?))
 }
 
 /// Whether a line ends the input.
@@ -46,7 +51,8 @@ pub(crate) fn is_quit(line: &[u8]) -> bool
 
 /// The word that this text is alone.
 fn lone_word(text: &[u8]) -> Option<Word>
-    ensures { IfSome result (IsSpelled text.now) }
+    ensures is { IfSome result (IsSpelled text.now) }
+    ensures none { result ≡ None → (word : Word) → ¬ IsSpelled text.now word }
 {
     if text == b"checkpoint".as_slice() {
         Some(Word::Checkpoint)
@@ -63,7 +69,8 @@ fn lone_word(text: &[u8]) -> Option<Word>
 
 /// The word of a copy that this text is.
 fn copy_word(text: &[u8]) -> Option<Word>
-    ensures { IfSome result (IsSpelled text.now) }
+    ensures is { IfSome result (IsSpelled text.now) }
+    ensures none { result ≡ None → (parent : Option ℕ) → ¬ IsSpelled text.now (Copy parent) }
 {
     if text == b"copy".as_slice() {
         return Some(Word::Copy(None));
@@ -75,7 +82,9 @@ fn copy_word(text: &[u8]) -> Option<Word>
 
 /// The number of a copy that these digits are, as the calls of a script have it.
 fn copy_number(digits: &[u8]) -> Option<u32>
-    ensures { IfSome result (λ number. number_of digits.now ≡ Some number) }
+    ensures is { IfSome result (λ number. number_of digits.now ≡ Some number) }
+    ensures none { result ≡ None
+        → (number : ℕ) → number < 4294967296 → number_of digits.now ≢ Some number }
 {
     if digits.len() == 0 || digits.len() > MAX_DIGITS {
         return None;
@@ -92,18 +101,20 @@ fn copy_number(digits: &[u8]) -> Option<u32>
 
 /// What stands before the first space.
 fn first_word(text: &[u8]) -> &[u8]
-    ensures { (rest : List ℕ) × (text.now ≡ result.now ++ rest) }
+    ensures { HasFirstWord text.now result.now }
 {
-    match text.iter().position(|byte| *byte == b' ') {
-        Some(end) => &text[..end],
-        None => text,
+    for (end, byte) in text.iter().enumerate() {
+        if *byte == b' ' {
+            return &text[..end];
+        }
     }
+    text
 }
 
 /// What is wrong with a line that begins with this and is no word, if a word does.
 fn trouble_of(first: &[u8]) -> Option<LineTrouble>
     ensures { IfSome result (λ why. Contains first_words first.now
-        × ((line : List ℕ) → BeginsAsWord line → IsNoOrder line why)) }
+        × ((line : List ℕ) → BeginsAsWord line → IsNoCall line why)) }
 {
     if first == b"copy".as_slice() {
         return Some(LineTrouble::NoCopyWord);

@@ -1,6 +1,6 @@
 //! What a word of an operator is answered.
 
-ghost use Rattle.std.specs.Prelude.{◌≡◌, IfErr, IfSome, None, OnOk};
+ghost use Rattle.std.specs.Prelude.{◌≡◌, ◌↔◌, IfErr, IfSome, None, OnOk};
 ghost use Rattle.std.specs.Io.KnownBytes.{Appends};
 ghost use Rattle.open_database.specs.Backups.{IsCopied, IsToldWell};
 ghost use Rattle.open_database.specs.Session.{LeavesLine};
@@ -33,7 +33,7 @@ pub(crate) enum WordSaid {
 impl WordSaid {
     /// What is said of the call that was refused, or whose file is not in place, if one is.
     pub fn refused(&self) -> Option<Said>
-        ensures { result ≡ None → IsToldWell self.now }
+        ensures { result ≡ None ↔ IsToldWell self.now }
     {
         match self {
             WordSaid::Call(said) if said.is_refused() => Some(*said),

@@ -50,7 +50,7 @@ impl fmt::Display for BadPage {
 
 impl Error for BadPage {}
 
-/// No page's spelling begins another page's, so two different pages have different spellings.
+/// What spells a page begins the spelling of no other one. So some bytes spell one page at most.
 pub fn pages_are_spelled_apart()
     ensures { (a b : Page) (x y : List ℕ) → IsPage a → IsPage b
         → page_bytes a ++ x ≡ page_bytes b ++ y → a ≡ b }

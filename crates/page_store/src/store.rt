@@ -30,7 +30,8 @@ pub trait PageStore {
     /// answered, and the store after it.
     ghost grew: { GrowCall Self };
 
-    /// How often the store has failed: a number that contracts alone see. It has no last value.
+    /// How often the store has failed. Contracts count this, and no code can read it; it may always
+    /// grow by one more.
     ghost failures: { Self → ℕ };
 
     /// How many pages are stored. No read and no write changes that.

@@ -1,6 +1,7 @@
 //! The unsound pages of a chain of copies from named files.
 
 ghost use Rattle.std.specs.Prelude.{map, IfErr, IfOk};
+ghost use Rattle.copy_audit.specs.AuditFault.{NamesNoPage};
 ghost use Rattle.copy_audit.specs.Audited.{AreRefused};
 ghost use Rattle.copy_audit.specs.Told.{AreToldOf};
 
@@ -21,6 +22,7 @@ pub fn unsound_pages<N: NamedFiles>(
         (map (λ name. N.bytes files.now name.now) archives.now)) }
     ensures err { IfErr result (AreRefused (N.bytes files.now log.now)
         (map (λ name. N.bytes files.now name.now) archives.now)) }
+    ensures no_page { IfErr result NamesNoPage }
 {
     let mut readers = told_readers(alloc, files, archives)?;
     let mut log = told_late(files, LOG, log);

@@ -3,7 +3,8 @@
 ghost use Rattle.std.specs.Prelude.{◌≡◌, IfErr, IfOk, Some};
 ghost use Rattle.log_records.specs.Log.{Log};
 ghost use Rattle.log_store.specs.Fault.{IsPlace};
-ghost use Rattle.media_restore.specs.Until.{IsLogUntil, RefusesCheckpoint, last_checkpoint};
+ghost use Rattle.media_restore.specs.Until.{EndsElsewhere, IsLogUntil, RefusesCheckpoint};
+ghost use Rattle.media_restore.specs.Until.{last_checkpoint};
 
 use crate::named_files::NamedFiles;
 use crate::restore::{LOG, told_late};
@@ -44,6 +45,7 @@ impl<'a, N: NamedFiles> UntilFiles<'a, N> {
             × (IsLogUntil (N.bytes files.now log.now) until ended
             × (last_checkpoint ended ≡ Some it.point))) }
         ensures err { IfErr result (RefusesCheckpoint (N.bytes files.now log.now) until) }
+        ensures no_record { IfErr result (EndsElsewhere (N.bytes files.now log.now) until) }
     {
         let mut first = told_late(files, LOG, log);
         let point = match checkpoint_until(alloc, &mut first, until) {

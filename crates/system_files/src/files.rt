@@ -4,6 +4,7 @@ ghost use Rattle.std.specs.Prelude.{None};
 
 use crate::notes::{Noted, Notes};
 use saved_files::NamedFiles;
+use std::fs::File;
 use std::rt::Files;
 use std::{fs, io};
 
@@ -14,12 +15,12 @@ pub struct SystemFiles<'a, R: Files> {
     pub notes: &'a Notes,
 }
 
-impl<'a, R: Files> NamedFiles for SystemFiles<'a, R> {
-    type File = Noted<'a, R::File>;
+impl<'a, R: Files<File = File>> NamedFiles for SystemFiles<'a, R> {
+    type File = Noted<'a, File>;
 
     ghost bytes = { λ _ _. None };
 
-    fn open(&self, name: &str) -> io::Result<Noted<'a, R::File>> {
+    fn open(&self, name: &str) -> io::Result<Noted<'a, File>> {
         let opened = fs::open(self.files, name);
         self.notes.note(&opened);
         Ok(Noted {

@@ -1,5 +1,7 @@
 //! What an output does not replace, unless it is told to.
 
+ghost use Rattle.system_files.specs.CopyNames.{IsReadOf, NamesCopy, SpellsId};
+
 use std::io::{ErrorKind, Read};
 use std::path::AsPath;
 use std::rt::Files;
@@ -10,6 +12,9 @@ const MAGIC_BYTES: usize = 8;
 
 /// The bytes with which a volume begins: page 0, and the format of pages.
 const VOLUME: [u8; MAGIC_BYTES] = [0, 0, 0, 0, 1, 0, 0, 0];
+
+/// With what the name of an image copy begins, before its id.
+const COPY: &str = "copy-";
 
 /// Why a file is not replaced unless that is asked for. Its text says what the file is.
 #[derive(Clone, Copy, Debug, PartialEq, Eq)]
@@ -26,6 +31,10 @@ pub enum Kept {
     MaybeMaster,
     /// The same, of an image copy.
     MaybeCopy,
+    /// The same, of the note of a closing.
+    MaybeNote,
+    /// The same, of what an opening put aside.
+    MaybePutAside,
     /// It cannot be read.
     Unread,
     /// The command that writes the output reads it.
@@ -41,6 +50,8 @@ impl fmt::Display for Kept {
             Kept::MaybeLog => "this may be a log, by its name",
             Kept::MaybeMaster => "this may be a master record, by its name",
             Kept::MaybeCopy => "this may be an image copy, by its name",
+            Kept::MaybeNote => "this may be the note of a closing, by its name",
+            Kept::MaybePutAside => "this may have been put aside by an opening, by its name",
             Kept::Unread => "this cannot be read, and may be a log",
             Kept::Input => "this is an input of the same command",
         })
@@ -81,6 +92,10 @@ fn kept_by_name(name: &str) -> Option<Kept> {
     match name {
         "log" => Some(Kept::MaybeLog),
         "master" => Some(Kept::MaybeMaster),
+        "closed" => Some(Kept::MaybeNote),
+        _ if name.starts_with("log.left-out-") || name.contains(".refused") => {
+            Some(Kept::MaybePutAside)
+        }
         _ => {
             copy_id(name)?;
             Some(Kept::MaybeCopy)
@@ -89,9 +104,17 @@ fn kept_by_name(name: &str) -> Option<Kept> {
 }
 
 /// The id of the image copy whose file has this name in a folder.
-pub fn copy_id(name: &str) -> Option<u32> {
-    let digits = name.strip_prefix("copy-")?;
-    if digits.starts_with('0') || !digits.bytes().all(|byte| byte.is_ascii_digit()) {
+pub fn copy_id(name: &str) -> Option<u32>
+    ensures { IsReadOf NamesCopy name.now result }
+{
+    number_of(name.strip_prefix(COPY)?)
+}
+
+/// The number above 0 that is written so.
+fn number_of(digits: &str) -> Option<u32>
+    ensures { IsReadOf SpellsId digits.now result }
+{
+    if digits.starts_with('0') || digits.starts_with('+') {
         return None;
     }
     digits.parse().ok()

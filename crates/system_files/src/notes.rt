@@ -54,6 +54,8 @@ pub struct Noted<'a, F> {
 }
 
 impl<F: Read> Read for Noted<'_, F> {
+    ghost remaining = { λ it. F.remaining it.file };
+
     fn read(&mut self, buf: &mut [u8]) -> io::Result<usize> {
         let done = self.file.read(buf);
         self.notes.note(&done);
@@ -62,6 +64,8 @@ impl<F: Read> Read for Noted<'_, F> {
 }
 
 impl<F: Write> Write for Noted<'_, F> {
+    ghost contents = { λ it. F.contents it.file };
+
     fn write(&mut self, buf: &[u8]) -> io::Result<usize> {
         let done = self.file.write(buf);
         self.notes.note(&done);

@@ -15,6 +15,8 @@ pub struct Patient<'a, F> {
 }
 
 impl<F: Read> Read for Patient<'_, F> {
+    ghost remaining = { λ it. F.remaining it.stream };
+
     fn read(&mut self, buf: &mut [u8]) -> io::Result<usize> {
         for _ in 0..u64::MAX {
             match self.stream.read(buf) {
@@ -24,11 +26,13 @@ impl<F: Read> Read for Patient<'_, F> {
                 done => return done,
             }
         }
-        Ok(0)
+        Err(io::Error::from(ErrorKind::WouldBlock))
     }
 }
 
 impl<F: Write> Write for Patient<'_, F> {
+    ghost contents = { λ it. F.contents it.stream };
+
     fn write(&mut self, buf: &[u8]) -> io::Result<usize> {
         for _ in 0..u64::MAX {
             match self.stream.write(buf) {

@@ -7,6 +7,7 @@ pub struct Draw {
 }
 
 impl Draw {
+    /// The numbers of this seed, from the first one on.
     pub fn new(seed: u64) -> Draw {
         Draw {
             state: seed.wrapping_mul(0x9e37_79b9_7f4a_7c15) | 1,

@@ -89,6 +89,7 @@ fn failed() -> io::Error {
 }
 
 impl State {
+    /// An empty folder, and a process that has made no call.
     pub fn new(alloc: Global) -> State {
         State {
             alloc,
@@ -206,6 +207,8 @@ impl State {
         answer(self.fails(Call::Read))
     }
 
+    /// Makes a file of this name, and answers its number. An `Err` comes where the name is taken,
+    /// or the call is to fail.
     pub fn make(&mut self, name: &str) -> io::Result<usize> {
         answer(self.fails(Call::Make))?;
         if self.file_of(name).is_some() {
@@ -220,6 +223,7 @@ impl State {
         Ok(file)
     }
 
+    /// Gives a file another name, in place of what has that one.
     pub fn rename(&mut self, from: &str, to: &str) -> io::Result<()> {
         let Some(file) = self.file_of(from) else {
             return Err(absent());
@@ -236,6 +240,7 @@ impl State {
         answer(fails)
     }
 
+    /// Takes a name away.
     pub fn remove(&mut self, name: &str) -> io::Result<()> {
         let Some(file) = self.file_of(name) else {
             return Err(absent());
@@ -251,6 +256,7 @@ impl State {
         answer(fails)
     }
 
+    /// Makes the names last, unless such a call is to do nothing.
     pub fn sync_names(&mut self) -> io::Result<()> {
         answer(self.fails(Call::SyncNames))?;
         if self.trouble.ignores(Call::SyncNames) {
@@ -259,6 +265,7 @@ impl State {
         self.take(Step::SyncNames)
     }
 
+    /// Writes bytes into a file. A call that fails late has written half of them.
     pub fn write(&mut self, call: Call, file: usize, at: usize, bytes: &[u8]) -> io::Result<()> {
         let fails = self.fails(call);
         let count = match (fails, self.is_late()) {
@@ -275,6 +282,7 @@ impl State {
         answer(fails)
     }
 
+    /// Gives a file so many bytes.
     pub fn set_len(&mut self, call: Call, file: usize, len: usize) -> io::Result<()> {
         let fails = self.fails(call);
         if !fails || self.is_late() {
@@ -283,6 +291,8 @@ impl State {
         answer(fails)
     }
 
+    /// Makes what a file has last, unless such a call is to do nothing. One that fails late
+    /// loses it.
     pub fn sync(&mut self, call: Call, file: usize) -> io::Result<()> {
         let fails = self.fails(call);
         if fails && self.is_late() {
@@ -294,10 +304,12 @@ impl State {
         answer(fails)
     }
 
+    /// A line is read from the input.
     pub fn ask(&mut self) -> io::Result<()> {
         self.take(Step::Asked)
     }
 
+    /// Bytes are written to the output.
     pub fn tell(&mut self, bytes: &[u8]) -> io::Result<()> {
         answer(self.fails(Call::Tell))?;
         let step = Step::Told {
@@ -429,6 +441,7 @@ pub(crate) fn copied(alloc: Global, bytes: &[u8]) -> io::Result<Vec<u8>> {
 }
 
 impl Machine {
+    /// A machine in this state.
     pub fn new(state: State) -> Machine {
         Machine {
             state: RefCell::new(state),

@@ -6,6 +6,7 @@ use crate::volume::{
     Volume, add_one, assert_copy, checkpoint, first_point, full_copy, new_session, only, settled,
     volume,
 };
+use copy_coverage::Retired;
 use copy_vault::{ArchiveWriteFault, CopyFault, CopyId, CopyKind, CopyWriteFault, write_archive};
 use engine_run::{OpenGate, Session, Work};
 use page_core::PageNo;
@@ -96,25 +97,39 @@ fn write_beside<G: Ledger + Send + Sync, R: Threads + Wait + Abort + AllocGlobal
 {
     let mut shared = volume::<G, R>(rt, blank, 8);
     let mut session = new_session(rt, &mut shared);
-    checkpoint(rt, &shared, 8);
-    assert_copy(rt, &shared, CopyKind::Full, 2, Ok(full_copy(1)));
-    assert_refusals(rt, &shared);
-    let (written, _) = join(
-        rt,
-        || asked_archive(rt, &shared),
-        || add_often(rt, &shared, &mut session),
-    );
-    let again = asked_archive(rt, &shared);
+    let archives = archives_beside(rt, &shared, &mut session);
     let works = [first_point(8), full_copy(1)];
     let left = settled(rt, only(rt, session), &works, shared);
+    assert_archives(rt, &left, &archives);
+}
+
+/// Two archives of copy 1, of which the first is written while pages change.
+fn archives_beside<G: Ledger + Send + Sync, R: Threads + Wait + Abort + AllocGlobal + Sync>(
+    rt: &R,
+    shared: &Volume<G>,
+    session: &mut Session<G>,
+) -> (Vec<u8>, Vec<u8>) {
+    checkpoint(rt, shared, 8);
+    assert_copy(rt, shared, CopyKind::Full, 2, Ok(full_copy(1)));
+    assert_refusals(rt, shared);
+    let (written, _) = join(
+        rt,
+        || asked_archive(rt, shared),
+        || add_often(rt, shared, session),
+    );
+    (written, asked_archive(rt, shared))
+}
+
+/// Both archives are that of the copy that the run leaves.
+fn assert_archives(rt: &(impl Abort + AllocGlobal), left: &Retired, archives: &(Vec<u8>, Vec<u8>)) {
     let Some(copy) = left.vault().complete(CopyId(1)) else {
         panic!(rt; "copy 1 is complete");
     };
     let mut archive = Vec::new(rt.alloc());
     assert_eq!(rt; write_archive(rt.alloc(), copy, &mut archive), Ok(()));
     assert_eq!(rt; archive.len(), 64 + 8 * 512);
-    assert!(rt; written.as_slice() == archive.as_slice());
-    assert!(rt; again.as_slice() == archive.as_slice());
+    assert!(rt; archives.0.as_slice() == archive.as_slice());
+    assert!(rt; archives.1.as_slice() == archive.as_slice());
 }
 
 /// Changes each page in turn, in transactions of their own.

@@ -6,6 +6,7 @@ use crate::settling::assert_refused;
 use crate::volume::{Volume, add_one, assert_copy, full_copy, new_session, only, settled};
 use aries_core::{Engine, Gathered, Setup};
 use copy_vault::CopyKind;
+use engine_run::Session;
 use log_store::MemDevice;
 use page_core::{Lsn, PageNo, SlotNo};
 use page_store::MemStore;
@@ -44,14 +45,23 @@ fn go_on<G: Ledger, R: Wait + Abort + AllocGlobal>(rt: &R, blank: Blank)
     let Ok(mut shared) = Volume::<G>::resume(rt.alloc(), blank, older_engine(rt)) else {
         panic!(rt; "memory for the sessions");
     };
-    assert_eq!(rt; shared.began().records, 3);
-    assert_eq!(rt; shared.began().last_copy, 0);
-    let mut session = new_session(rt, &mut shared);
-    assert_eq!(rt; session.read(rt, &shared, PageNo(0), SlotNo(0)), Ok(5));
-    add_one(rt, &shared, &mut session, PageNo(0));
-    assert_eq!(rt; session.read(rt, &shared, PageNo(0), SlotNo(0)), Ok(6));
+    let session = go_on_in(rt, &mut shared);
     let left = settled(rt, only(rt, session), &[], shared);
     assert_eq!(rt; left.log().records().len(), 6);
+}
+
+/// The same of an engine that is lent.
+fn go_on_in<G: Ledger>(
+    rt: &(impl Wait + Abort + AllocGlobal),
+    shared: &mut Volume<G>,
+) -> Session<G> {
+    assert_eq!(rt; shared.began().records, 3);
+    assert_eq!(rt; shared.began().last_copy, 0);
+    let mut session = new_session(rt, shared);
+    assert_eq!(rt; session.read(rt, shared, PageNo(0), SlotNo(0)), Ok(5));
+    add_one(rt, shared, &mut session, PageNo(0));
+    assert_eq!(rt; session.read(rt, shared, PageNo(0), SlotNo(0)), Ok(6));
+    session
 }
 
 /// The same engine with a complete copy.
@@ -84,12 +94,20 @@ fn copy_anew<G: Ledger + Send + Sync, R: Threads + Wait + Abort + AllocGlobal + 
     let Ok(shared) = Volume::<G>::resume(rt.alloc(), blank, copied_engine(rt)) else {
         panic!(rt; "memory for the sessions");
     };
-    assert_eq!(rt; shared.began().last_copy, 1);
-    assert_copy(rt, &shared, CopyKind::Full, 1, Ok(full_copy(2)));
+    assert_next_copy(rt, &shared);
     let run = (Vec::new(rt.alloc()), shared);
     let works = [full_copy(2), full_copy(1)];
     let (sessions, shared) = assert_refused(rt, run, &works, "E28 Unsettled 0");
     let _ = settled(rt, sessions, &[full_copy(2)], shared);
+}
+
+/// Copy 1 is there, and a new one is copy 2.
+fn assert_next_copy<G: Ledger + Send + Sync, R: Threads + Wait + Abort + AllocGlobal + Sync>(
+    rt: &R,
+    shared: &Volume<G>,
+) {
+    assert_eq!(rt; shared.began().last_copy, 1);
+    assert_copy(rt, shared, CopyKind::Full, 1, Ok(full_copy(2)));
 }
 
 #[test]

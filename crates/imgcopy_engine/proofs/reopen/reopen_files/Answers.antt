@@ -2,10 +2,11 @@ use Rattle.std.proofs.Common.{subst, sym, ◌∙◌}
 use Rattle.std.specs.Prelude.{Option}
 use Rattle.log_front.specs.Front.{IsFrontOf}
 use Rattle.log_front.specs.declared.cut.Cut.{Cut}
-use Rattle.log_records.specs.Log.{IsLog, Log}
+use Rattle.log_records.specs.Log.{IsLog, Log, log_bytes}
 use Rattle.engine_rules.specs.EngineState.{EngineState, log_of}
-use Rattle.engine_restart.specs.LogFile.{LastsOnFile, WasReadWhole}
+use Rattle.engine_restart.specs.LogFile.{LastsOnFile}
 use Rattle.engine_restart.specs.Lives.{GoesOnFrom}
+use Rattle.imgcopy_engine.specs.Reopened.{not_undone}
 use Rattle.imgcopy_engine.specs.Taken.{TakesUp}
 use Rattle.imgcopy_engine.proofs.LogFound.{calls_go_on, still_read}
 use Rattle.imgcopy_engine.proofs.PagesFound.{are_counted, are_numbered}
@@ -31,6 +32,12 @@ pub into_engine-requires-clause-device : goal.into_engine-requires-clause-device
 into_engine-requires-clause-device c =
     subst (λ (log : Log). LastsOnFile log c.in-Ok.it.1) (sym c.take_up.ensures.log) c.in-Ok.ensures.device
 
+pub returns-in-Err-clause-fault : goal.returns-in-Err-clause-fault
+returns-in-Err-clause-fault c =
+    let found = c.in_ok-front.field-0 in
+    not_undone found.bytes.items found.front found.device c.in_ok-front.ensures.read c.in_ok-front.ensures.front
+    c.in-Err.ensures.fault (c.in-Err.ensures.stands.same ∙ c.in_ok-front.ensures.lasting.holds) c.in-Err.ensures.full
+
 pub returns-in-Ok-into_engine : goal.returns-in-Ok-into_engine
 returns-in-Ok-into_engine c =
     let found = c.in_ok-front.field-0 in
@@ -43,7 +50,8 @@ returns-in-Ok-into_engine c =
         bytes = bytes;
         log = found.front.log;
         read = rw it.ensures.device
-            (still_read c.args.log.1 bytes found.device.calls undone.1.calls c.in_ok-front.ensures.read go_on);
+            (still_read c.args.log.1 bytes (log_bytes found.front.log) found.device.calls undone.1.calls
+            c.in_ok-front.ensures.read go_on);
         front = subst (λ (cut : Option Cut). IsFrontOf bytes (record { log = found.front.log; cut = cut }))
             (sym c.cut-cut.ensures) c.in_ok-front.ensures.front;
         goes_on = subst (λ (l : Log). GoesOnFrom l it.engine.state)
@@ -55,4 +63,5 @@ returns-in-Ok-into_engine c =
           (subst
           (λ (l : Log). TakesUp l c.args.copies.items c.in_ok-refused.refused.items c.take_up.new.restarted.copies)
           (sym c.take_up.ensures.log) c.in_ok-refused.ensures.taken);
+      fault = tt;
     }

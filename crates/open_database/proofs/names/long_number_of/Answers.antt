@@ -1,4 +1,4 @@
-use Rattle.std.proofs.Common.{◌≡◌, ◌≤◌, ℕ, get_or, arith, subst, sym, true≢false, ◌∙◌}
+use Rattle.std.proofs.Common.{arith, subst, sym, true≢false, ◌∙◌}
 use Rattle.std.proofs.lemmas.Str.Parse.{parse_plain}
 use Rattle.std.proofs.lemmas.Str.Pattern.{starts_char}
 use Rattle.open_database.specs.Found.{IsReadOf, SpellsNumber}

@@ -1,8 +1,10 @@
 use Rattle.std.proofs.Common.{subst, ◌∙◌}
-use Rattle.open_database.proofs.Served.{by_lines, by_lines_lives}
+use Rattle.std.specs.Prelude.{OnOk}
+use Rattle.open_database.proofs.Served.{by_all_lines, by_lines, by_lines_lives}
 use Rattle.open_database.specs.Calls.{IsAnyReply, IsOfClosing, RunsBy}
+use Rattle.open_database.specs.Closed.{ClosesWell}
 use Rattle.open_database.specs.FirstLine.{first_line}
-use Rattle.open_database.specs.Session.{ServesLines}
+use Rattle.open_database.specs.Session.{ServesAllLines, ServesLines}
 use Rattle.open_database.proofs.open.live.Goals as goal
 use Rattle.open_database.proofs.open.live.Goals.{After-close}
 
@@ -34,3 +36,17 @@ returns-clause-lines g c =
     by_lines (first_line c.args.begun.0) (g.R.Read.remaining c.args.input.now) c.args.session.now.engine.state c.serve_all-served.new.session.engine.state
     c.close.new.self.engine.state (g.W.Write.contents c.args.output.now)
     (g.W.Write.contents c.serve_all-served.new.output) (served g c) (closed g c)
+
+pub returns-clause-all : goal.returns-clause-all
+returns-clause-all g c well =
+    by_all_lines (first_line c.args.begun.0) (g.R.Read.remaining c.args.input.now) c.args.session.now.engine.state
+    c.serve_all-served.new.session.engine.state c.close.new.self.engine.state (g.W.Write.contents c.args.output.now)
+    (g.W.Write.contents c.serve_all-served.new.output) c.serve_all-served.result c.note_served.new.session.has_failed
+    (subst (λ engine. OnOk c.serve_all-served.result (ServesAllLines (first_line c.args.begun.0)
+    (g.R.Read.remaining c.args.input.now) engine.state c.serve_all-served.new.session.engine.state
+    (g.W.Write.contents c.args.output.now) (g.W.Write.contents c.serve_all-served.new.output)))
+    (c.keep_placed.ensures.engine ∙ c.put_point.ensures.engine)
+    c.serve_all-served.ensures.all)
+    c.note_served.ensures.failed (c.close.ensures.stays well)
+    (subst (λ engine. ClosesWell engine.state c.close.new.self.engine.state) c.note_served.ensures.engine
+    (c.close.ensures.well well))

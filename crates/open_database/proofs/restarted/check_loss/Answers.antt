@@ -4,9 +4,9 @@ use Rattle.open_database.specs.Evidence.{LacksNothing}
 use Rattle.open_database.specs.Master.{spelled}
 use Rattle.open_database.proofs.restarted.check_loss.Goals as goal
 
-pub returns-then-is_none : goal.returns-then-is_none
-returns-then-is_none g c = λ told.
+pub returns-then-is_none-clause-whole : goal.returns-then-is_none-clause-whole
+returns-then-is_none-clause-whole g c = λ told.
     let found = c.args.remains.now in
     subst (λ (bytes : List ℕ). LacksNothing (end_of found.log.front.log) found.others.note found.others.manifest
     (spelled found.others.master) found.others.copies.items bytes) c.deref.ensures.value
-    (c.in_ok-loss.ensures (c.is_none.ensures c.if-is_none.true))
+    (c.in-Ok.ensures.0 (c.is_none.ensures.0 c.if-is_none.true))

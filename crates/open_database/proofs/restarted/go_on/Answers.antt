@@ -24,3 +24,6 @@ returns-clause-told g c =
     c.first_line-first.ensures c.of-facts.ensures.cut c.of-facts.ensures.open
     (sym (ap (λ (s : EngineState). length s.log) c.in_ok-engine.ensures.state
     ∙ ap (λ (l : Log). length l.records) c.equip.ensures.log))
+
+pub returns-clause-frames : goal.returns-clause-frames
+returns-clause-frames g c = ap (λ (s : EngineState). s.frames) c.in_ok-engine.ensures.state

@@ -1,7 +1,11 @@
-use Rattle.std.proofs.Common.{ap}
-use Rattle.open_database.specs.Master.{spelled}
+use Rattle.std.proofs.Common.{◌∙◌, ap, subst}
+use Rattle.log_records.specs.Log.{Log}
+use Rattle.open_database.specs.Master.{IsUnnamed, TellsWrong, spelled}
 use Rattle.open_database.specs.declared.restarted.Others.{Others}
+use Rattle.open_database.specs.Copies.{ids_unread}
+use Rattle.open_database.proofs.LogThere.{goes_on_handed}
 use Rattle.open_database.proofs.Reopened.{goes_on_from}
+use Rattle.open_database.proofs.Standings.{keeps_more, keeps_volume}
 use Rattle.open_database.proofs.restarted.reopen.Goals as goal
 
 pub returns-clause-goes_on : goal.returns-clause-goes_on
@@ -10,9 +14,35 @@ returns-clause-goes_on g c =
     let now = c.prepare.new.remains in
     let was = c.in_ok-remains.ensures in
     goes_on_from (g.F.Folder.entries c.args.folder.now) c.args.call.now.salvage c.args.log.len
-    c.args.there.now.copies.items c.in_ok-opened.opened.first c.in_ok-opened.opened.engine.state found.log.bytes.items
+    c.args.there.now.copies.items c.args.call.now.pages c.args.call.now.frames c.in_ok-opened.opened.first
+    c.in_ok-opened.opened.engine.state found.log.bytes.items
     found.log.front.log now.log.front.log found.log.front.cut found.others.note found.others.manifest
     (spelled found.others.master) found.others.copies.items now.others.copies.items was.there was.whole was.front
-    was.copies was.others c.in_ok-sums.ensures.whole c.prepare.ensures.log
+    c.in_ok-sums.ensures.count was.copies c.requires.rise was.others c.in_ok-sums.ensures.volume c.in_ok-sums.ensures.whole c.prepare.ensures.log
     (ap (λ (o : Others). o.copies.items) c.prepare.ensures.others) c.in_ok-opened.ensures.goes_on
-    c.in_ok-opened.ensures.told
+    c.in_ok-opened.ensures.frames c.in_ok-opened.ensures.told
+
+pub returns-clause-handed : goal.returns-clause-handed
+unfolding goes_on_from returns-clause-goes_on
+returns-clause-handed g c =
+    let opened = c.in_ok-opened.opened in
+    let found = c.in_ok-remains.remains in
+    let now = c.prepare.new.remains in
+    goes_on_handed (g.F.Folder.entries c.args.folder.now) c.args.call.now.salvage c.args.log.len
+    c.args.there.now.copies.items c.args.call.now.pages c.args.call.now.frames opened.first opened.engine.state
+    opened.unread.items opened.point opened.is_master_wrong (returns-clause-goes_on g c)
+    (c.in_ok-opened.ensures.unread ∙ ap (λ (o : Others). ids_unread o.copies.items) c.prepare.ensures.others)
+    (subst (λ (o : Others). IsUnnamed found.log.front.log (spelled o.master) opened.point) c.prepare.ensures.others
+    (subst (λ (log : Log). IsUnnamed log (spelled now.others.master) opened.point) c.prepare.ensures.log
+    c.in_ok-opened.ensures.point))
+    (subst (λ (o : Others). TellsWrong found.log.front.log (spelled o.master) opened.is_master_wrong)
+    c.prepare.ensures.others
+    (subst (λ (log : Log). TellsWrong log (spelled now.others.master) opened.is_master_wrong) c.prepare.ensures.log
+    c.in_ok-opened.ensures.wrong))
+
+pub returns-clause-kept : goal.returns-clause-kept
+returns-clause-kept g c = λ told.
+    let first = g.F.Folder.entries c.args.folder.now in
+    let prepared = g.F.Folder.entries c.prepare.new.folder in
+    let last = g.F.Folder.entries c.go_on.new.folder in
+    keeps_more first prepared last (c.prepare.ensures.files told) (keeps_volume prepared last c.go_on.ensures.others)

@@ -1,5 +1,5 @@
 use Rattle.saved_files.specs.Folder.{Changes}
-use Rattle.open_database.specs.Backups.{KeepsFinished}
+use Rattle.open_database.specs.Standing.{KeepsFinished}
 use Rattle.open_database.proofs.second_folder.clear.Given as goal
 
 abbrev pub invariant-loop-name : goal.invariant-loop-name

@@ -6,7 +6,7 @@ use Rattle.open_database.proofs.second_folder.note.Goals as goal
 pub returns-in-Ok-clause-named : goal.returns-in-Ok-clause-named
 returns-in-Ok-clause-named c =
     let file : FileSum = record {
-      extent = c.match-name.extent;
+      extent = c.extent_of-extent.result;
       bytes = c.sum_of-bytes.result.bytes;
       sum = c.sum_of-bytes.result.sum;
     } in
@@ -14,9 +14,10 @@ returns-in-Ok-clause-named c =
       file = file;
       there = subst (λ (name : List ℕ). file_of name c.note_file.new.manifest.entries ≡ Some file)
           (c.as_str.ensures.value ∙ c.in_ok-text.ensures.ok) c.in-Ok.ensures.there;
+      extent = c.extent_of-extent.ensures;
       bytes = c.args.bytes.now;
       right = refl;
-      sum = c.sum_of-bytes.ensures;
+      sum = c.sum_of-bytes.ensures.sum;
     }
 
 pub returns-in-Ok-clause-noted : goal.returns-in-Ok-clause-noted

@@ -34,7 +34,7 @@ returns-clause-put g c =
     let new = g.F.Folder.entries c.fill.new.folder in
     on_ok c.fill.result (λ put. backup_cleared first c.args.copies.now c.args.database.0 old mid new
     (cleared old (g.F.Folder.entries c.claim_or_wait.new.self) mid c.claim_or_wait.ensures.same c.clear.ensures.kept)
-    (subst (λ (name : List ℕ). Changes (IsBackup first c.args.copies.now name) mid new) c.in_ok-manifest.ensures put))
+    (subst (λ (name : List ℕ). Changes (IsBackup first c.args.copies.now name) mid new) c.in_ok-manifest.ensures.database put))
     c.fill.ensures.put
 
 pub returns-clause-rest : goal.returns-clause-rest
@@ -47,4 +47,4 @@ returns-clause-rest g c =
     (subst (HasBytes first (name_of saved.Log)) (sym c.deref.ensures.value) c.in_ok-log.ensures)
     c.claim_or_wait.ensures.same c.in_ok-check_all.ensures c.clear.ensures.kept
     (subst (λ (name : List ℕ). Changes (PutsManifestLast first c.args.copies.now name) mid new)
-    c.in_ok-manifest.ensures c.fill.ensures.last) c.fill.ensures.older c.fill.ensures.others
+    c.in_ok-manifest.ensures.database c.fill.ensures.last) c.fill.ensures.older c.fill.ensures.others

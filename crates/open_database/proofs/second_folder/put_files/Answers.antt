@@ -51,5 +51,6 @@ returns-clause-older g c =
     subst (HasBytes first (name_of saved.Master)) (sym c.deref.ensures.value) c.in_ok-master.ensures in
     master_older first c.args.log.now master (g.F.Folder.entries c.args.folder.now)
     (g.F.Folder.entries c.put.new.folder) (g.F.Folder.entries c.put_copies.new.folder)
-    (g.F.Folder.entries c.put-2.new.folder) c.requires.read read c.put.ensures.either c.put.ensures.others
+    (g.F.Folder.entries c.put-2.new.folder) c.requires.read read c.in_ok-put.ensures.put c.put.ensures.either
+    c.put.ensures.others
     c.put_copies.ensures.others c.put-2.ensures.either c.put-2.ensures.others

@@ -1,5 +1,9 @@
-use Rattle.std.proofs.Common.{drop, sym, take-append-drop}
+use Rattle.open_database.specs.Words.{alone}
+use Rattle.open_database.proofs.Spelled.{begins_before}
 use Rattle.open_database.proofs.word.first_word.Goals as goal
 
-pub returns-in-Some : goal.returns-in-Some
-returns-in-Some c = (drop c.in-Some.end c.args.text.now, sym (take-append-drop c.in-Some.end c.args.text.now))
+pub returns-then-byte-eq32 : goal.returns-then-byte-eq32
+returns-then-byte-eq32 c = begins_before c.args.text.now c.loop-end.end c.loop-end-test.true c.if-byte-eq32.true
+
+pub returns : goal.returns
+returns c = alone c.args.text.now

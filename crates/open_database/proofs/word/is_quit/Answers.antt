@@ -1,18 +1,10 @@
-use Rattle.std.proofs.Common.{◌≡◌, List, ℕ, drop, refl, subst, sym, ◌∙◌}
+use Rattle.std.proofs.Common.{subst, sym, ◌∙◌}
 use Rattle.std.specs.Prelude.{codes}
-use Rattle.std.specs.Char.{is_ascii_whitespace}
-use Rattle.std.specs.List.{prefix_len}
 use Rattle.std.specs.Str.{IsTrimAscii}
 use Rattle.std.proofs.lemmas.Bool.Decides.{Decides-eqb}
 use Rattle.std.proofs.lemmas.Slice.Eq.{slice_eq-Decides}
-use Rattle.std.proofs.lemmas.Str.Ascii.{trim_ascii_is}
+use Rattle.open_database.proofs.Spelled.{one_text}
 use Rattle.open_database.proofs.word.is_quit.Goals as goal
-
--- a line has one text
-one_text : (line first second : List ℕ) → IsTrimAscii line first → IsTrimAscii line second → first ≡ second
-one_text line first second has also =
-    let behind = drop (prefix_len is_ascii_whitespace line) line in
-    trim_ascii_is line first behind refl has ∙ sym (trim_ascii_is line second behind refl also)
 
 pub returns : goal.returns
 returns c =

@@ -1,5 +1,5 @@
-use Rattle.std.proofs.Common.{◌≡◌, ◌++◌, ◌∷◌, [], ℕ, List, arith, subst, sym}
-use Rattle.std.specs.Prelude.{codes, decimal}
+use Rattle.std.proofs.Common.{◌≡◌, arith}
+use Rattle.std.specs.Prelude.{codes}
 use Rattle.open_database.proofs.Inventories.{all_with, all_without, differ, is_no_copy, of_other, of_this}
 use Rattle.open_database.proofs.inventory.Inventory.note.Goals as goal
 
@@ -13,6 +13,7 @@ returns-in_default-copy_of c = λ names was.
       closed = of_other it.has_closed names name (codes "closed") c.in_default.not-closed was.closed;
       manifest = of_other it.has_manifest names name (codes "manifest") c.in_default.not-manifest was.manifest;
       copies = all_without it.copies.items names name c.in_default-copy_of.ensures was.copies;
+      unfinished = was.unfinished;
     }
 
 pub returns-in-log : goal.returns-in-log
@@ -27,6 +28,7 @@ returns-in-log c = λ names was.
       closed = of_other it.has_closed names name (codes "closed") (differ name this (codes "closed") 0 is (λ (e : 108 ≡ 99). absurd (omega (arith, e)))) was.closed;
       manifest = of_other it.has_manifest names name (codes "manifest") (differ name this (codes "manifest") 0 is (λ (e : 108 ≡ 109). absurd (omega (arith, e)))) was.manifest;
       copies = all_without it.copies.items names name (is_no_copy name this 0 is (λ id (e : 108 ≡ 99). absurd (omega (arith, e)))) was.copies;
+      unfinished = was.unfinished;
     }
 
 pub returns-in-volume : goal.returns-in-volume
@@ -41,6 +43,7 @@ returns-in-volume c = λ names was.
       closed = of_other it.has_closed names name (codes "closed") (differ name this (codes "closed") 0 is (λ (e : 118 ≡ 99). absurd (omega (arith, e)))) was.closed;
       manifest = of_other it.has_manifest names name (codes "manifest") (differ name this (codes "manifest") 0 is (λ (e : 118 ≡ 109). absurd (omega (arith, e)))) was.manifest;
       copies = all_without it.copies.items names name (is_no_copy name this 0 is (λ id (e : 118 ≡ 99). absurd (omega (arith, e)))) was.copies;
+      unfinished = was.unfinished;
     }
 
 pub returns-in-master : goal.returns-in-master
@@ -55,6 +58,7 @@ returns-in-master c = λ names was.
       closed = of_other it.has_closed names name (codes "closed") (differ name this (codes "closed") 0 is (λ (e : 109 ≡ 99). absurd (omega (arith, e)))) was.closed;
       manifest = of_other it.has_manifest names name (codes "manifest") (differ name this (codes "manifest") 2 is (λ (e : 115 ≡ 110). absurd (omega (arith, e)))) was.manifest;
       copies = all_without it.copies.items names name (is_no_copy name this 0 is (λ id (e : 109 ≡ 99). absurd (omega (arith, e)))) was.copies;
+      unfinished = was.unfinished;
     }
 
 pub returns-in-closed : goal.returns-in-closed
@@ -69,6 +73,7 @@ returns-in-closed c = λ names was.
       closed = of_this names name this is;
       manifest = of_other it.has_manifest names name (codes "manifest") (differ name this (codes "manifest") 0 is (λ (e : 99 ≡ 109). absurd (omega (arith, e)))) was.manifest;
       copies = all_without it.copies.items names name (is_no_copy name this 1 is (λ id (e : 108 ≡ 111). absurd (omega (arith, e)))) was.copies;
+      unfinished = was.unfinished;
     }
 
 pub returns-in-manifest : goal.returns-in-manifest
@@ -83,6 +88,7 @@ returns-in-manifest c = λ names was.
       closed = of_other it.has_closed names name (codes "closed") (differ name this (codes "closed") 0 is (λ (e : 109 ≡ 99). absurd (omega (arith, e)))) was.closed;
       manifest = of_this names name this is;
       copies = all_without it.copies.items names name (is_no_copy name this 0 is (λ id (e : 109 ≡ 99). absurd (omega (arith, e)))) was.copies;
+      unfinished = was.unfinished;
     }
 
 pub returns-in_ok-push-in_default : goal.returns-in_ok-push-in_default
@@ -97,4 +103,5 @@ returns-in_ok-push-in_default c = λ names was.
       manifest = of_other it.has_manifest names name (codes "manifest") not.not-manifest was.manifest;
       copies = all_with it.copies.items c.push.new.self.items names name c.in-Some.id c.in-Some.ensures
           c.in_ok-push-in_default.ensures.items was.copies;
+      unfinished = was.unfinished;
     }

@@ -1,15 +1,16 @@
-use Rattle.std.proofs.Common.{◌≡◌, ◌∷◌, [], ap, List, ℕ, map, map-id, refl, string_bytes, subst, sym, ◌∙◌}
+use Rattle.std.proofs.Common.{rules, ◌≡◌, ◌∷◌, [], ap, List, ℕ, map, map-id, refl, string_bytes, subst, sym, ◌∙◌}
 use Rattle.std.specs.List.{Contains}
 use Rattle.std.proofs.lemmas.Iterator.Adapters.{YieldsList-from_vec}
 use Rattle.std.proofs.lemmas.Iterator.Consumers.{YieldsList-end}
 use Rattle.std.proofs.lemmas.List.{map-append}
+use Rattle.std.proofs.lemmas.List.Sorted.{IsNonDecreasingBy-from_sort, answers_always}
 use Rattle.open_database.specs.Found.{TellsNames}
 use Rattle.open_database.proofs.Founds.{of_listed}
 use Rattle.open_database.proofs.Inventories.{moved_ids, none_noted}
 use Rattle.open_database.proofs.inventory.Inventory.of.Goals as goal
 
 pub loop-name-init : goal.loop-name-init
-loop-name-init g c = none_noted _ c.new.ensures.items refl refl refl refl refl
+loop-name-init g c = none_noted _ c.new.ensures.items refl refl refl refl refl c.new-2.ensures.items
 
 pub loop-name-preserved : goal.loop-name-preserved
 loop-name-preserved g c =
@@ -17,8 +18,8 @@ loop-name-preserved g c =
     (sym (map-append string_bytes c.loop-name.yielded (c.in-Some.name ∷ [])))
     (c.in_ok-take.ensures (map string_bytes c.loop-name.yielded) c.loop-name.invariant)
 
-pub returns : goal.returns
-returns g c =
+pub returns-clause-there : goal.returns-clause-there
+returns-clause-there g c =
     let names = map string_bytes c.in-Ok.names.items in
     let gives = c.into_iter-name-iterator.ensures.into_iter_gives in
     let drained = YieldsList-end (YieldsList-from_vec {s = c.into_iter-name-iterator.result} c.in-Ok.names.items gives.0
@@ -35,4 +36,11 @@ returns g c =
       manifest = told.manifest;
       copies = moved_ids c.loop-name.there.copies.items c.sort_unstable_by_key.new.self.items names
           c.sort_unstable_by_key.ensures.permutation told.copies;
+      unfinished = told.unfinished;
     })
+
+pub returns-clause-rise : goal.returns-clause-rise
+returns-clause-rise g c =
+    let key = λ (id : ℕ). id in
+    IsNonDecreasingBy-from_sort key _ (c.sort_unstable_by_key.ensures.sorted key
+    (answers_always _ _ _ (λ f a r after called. search rules)))

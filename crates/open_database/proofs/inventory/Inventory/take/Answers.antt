@@ -1,5 +1,6 @@
-use Rattle.std.proofs.Common.{string_bytes}
-use Rattle.open_database.proofs.Inventories.{of_same}
+use Rattle.std.proofs.Common.{string_bytes, subst}
+use Rattle.open_database.specs.Standing.{IsUnfinished}
+use Rattle.open_database.proofs.Inventories.{of_same, unfinished_with}
 use Rattle.open_database.proofs.inventory.Inventory.take.Goals as goal
 
 pub returns-then-branch : goal.returns-then-branch
@@ -17,6 +18,9 @@ returns-in_ok-push c = λ names was.
       closed = it.closed;
       manifest = it.manifest;
       copies = it.copies;
+      unfinished = unfinished_with c.note.new.self.unfinished.items c.push.new.self.items c.args.name
+          c.in_ok-push.ensures.items it.unfinished
+          (subst IsUnfinished c.as_str-text.ensures.value (c.is_unfinished.ensures c.if-is_unfinished.true));
     }
 
 pub returns-then-not-is_harmless : goal.returns-then-not-is_harmless
@@ -29,6 +33,7 @@ returns-then-not-is_harmless c = λ names was.
       closed = it.closed;
       manifest = it.manifest;
       copies = it.copies;
+      unfinished = it.unfinished;
     }
 
 pub returns-else-is_none : goal.returns-else-is_none

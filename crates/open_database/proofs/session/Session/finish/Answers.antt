@@ -1,8 +1,10 @@
-use Rattle.std.proofs.Common.{subst, sym}
-use Rattle.open_database.proofs.WordCopies.{seals, seals_not, seals_unplaced}
-use Rattle.open_database.specs.WordCopies.{SealsCopy}
+use Rattle.std.proofs.Common.{refl, subst, sym}
+use Rattle.open_database.proofs.WordCopies.{ends_by_seal, none_waits_then, seals, seals_not, seals_unplaced}
+use Rattle.open_database.specs.Pending.{WaitsUnlessPlaced}
+use Rattle.open_database.specs.WordCopies.{EndsBySeal, SealsCopy}
 use Rattle.open_database.specs.Words.{Runs}
 use Rattle.open_database.specs.declared.word_said.WordSaid.TheVariants.{Call, Copied}
+use Rattle.open_database.specs.declared.said.Said.{Said}
 use Rattle.open_database.specs.declared.said.Said.TheVariants.{Unplaced}
 use Rattle.open_database.proofs.session.Session.finish.Goals as goal
 
@@ -14,13 +16,30 @@ returns-in-Reply-clause-made g c =
     (seals c.args.id c.args.pages c.taken_of.result c.args.self.now.engine.state c.complete.new.self.engine.state
     c.in-Ok.answer c.in-Ok.ensures.step c.taken_of.ensures)
 
+pub returns-in-Reply-clause-waits : goal.returns-in-Reply-clause-waits
+returns-in-Reply-clause-waits g c = (
+  refl,
+  none_waits_then c.args.id c.in-Ok.answer c.place_sealed.result c.in-Reply.field-0 c.place_sealed.new.self.pending
+      c.in-Reply.is c.place_sealed.ensures.says c.place_sealed.ensures.waits,
+)
+
+pub returns-in-Unplaced-clause-waits : goal.returns-in-Unplaced-clause-waits
+returns-in-Unplaced-clause-waits g c = (
+  subst (λ (it : Said). WaitsUnlessPlaced c.args.id it c.place_sealed.new.self.pending) c.in-Unplaced.is
+      c.place_sealed.ensures.waits,
+  subst (λ engine. Runs (EndsBySeal c.args.id) c.args.self.now.engine.state engine.state)
+      (sym c.place_sealed.ensures.engine)
+      (ends_by_seal c.args.id c.args.self.now.engine.state c.complete.new.self.engine.state c.in-Ok.answer
+      c.in-Ok.ensures.step),
+)
+
 pub returns-in-Unplaced-clause-made : goal.returns-in-Unplaced-clause-made
 returns-in-Unplaced-clause-made g c =
     subst (λ engine. Runs (λ events replies. SealsCopy c.args.id c.args.pages events replies
-    (Call (Unplaced c.in-Unplaced.why))) c.args.self.now.engine.state engine.state)
+    (Call (Unplaced c.in-Unplaced.fault))) c.args.self.now.engine.state engine.state)
     (sym c.place_sealed.ensures.engine)
     (seals_unplaced c.args.id c.args.pages c.args.self.now.engine.state c.complete.new.self.engine.state c.in-Ok.answer
-    c.in-Unplaced.why c.in-Ok.ensures.step)
+    c.in-Unplaced.fault c.in-Ok.ensures.step)
 
 pub returns-in-Err-clause-made : goal.returns-in-Err-clause-made
 returns-in-Err-clause-made g c =

@@ -1,7 +1,10 @@
-use Rattle.std.proofs.Common.{subst, sym}
+use Rattle.std.proofs.Common.{ℕ, ◌≡◌, [], subst, sym}
 use Rattle.engine_calls.specs.declared.event.Event.{Event}
+use Rattle.engine_calls.specs.declared.event.Event.TheVariants.{CopyInc}
+use Rattle.open_database.proofs.CopyCalls.{begun_at_once}
 use Rattle.open_database.proofs.Served.{made_end, made_plain, made_seal}
-use Rattle.open_database.specs.Calls.{Makes}
+use Rattle.open_database.specs.Calls.{Makes, MakesOne}
+use Rattle.open_database.specs.Pending.{Waits}
 use Rattle.open_database.proofs.session.Session.made.Goals as goal
 
 pub returns-in-Seals-clause-made : goal.returns-in-Seals-clause-made
@@ -21,3 +24,12 @@ pub returns-in-Plain-clause-made : goal.returns-in-Plain-clause-made
 returns-in-Plain-clause-made g c =
     made_plain c.args.event c.args.self.now.engine.state c.apply.new.self.state c.apply.result
     c.in-Plain.ensures.kind c.in-Plain.ensures.fits c.apply.ensures.step
+
+pub returns-in-BeginsCopy-Some-clause-once : goal.returns-in-BeginsCopy-Some-clause-once
+returns-in-BeginsCopy-Some-clause-once g c =
+    begun_at_once c.args.event c.in-BeginsCopy-Some.field-0 c.in-BeginsCopy-Some.parent c.args.self.now.unread.items
+    c.args.self.now.pending c.args.self.now.engine.state c.begin_increment.result c.begin_increment.new.self.engine.state
+    c.in-BeginsCopy-Some.ensures.kind c.in-BeginsCopy-Some.field-0-is
+    (subst (λ (id : ℕ). c.args.self.now.unread.items ≡ [] → ¬ Waits c.args.self.now.pending id
+    → MakesOne (CopyInc id) c.args.self.now.engine.state c.begin_increment.result
+    c.begin_increment.new.self.engine.state) c.in-BeginsCopy-Some.parent-is c.begin_increment.ensures.once)

@@ -1,4 +1,4 @@
-use Rattle.std.proofs.Common.{subst, sym}
+use Rattle.std.proofs.Common.{rules, subst, sym}
 use Rattle.std.specs.Prelude.{IfErr, OnOk}
 use Rattle.open_database.proofs.WordRuns.{help_left, help_taken, status_left, status_taken}
 use Rattle.open_database.specs.Session.{LeavesWord, TakesWord}
@@ -14,7 +14,8 @@ returns-in-Help-clause-taken g c =
     (g.W.Write.contents c.write_text.new.writer))) (sym c.in-Help.is)
     (help_taken c.write_text.result c.args.self.now.engine.state c.as_bytes.result.now
     (g.F.Folder.entries c.args.self.now.folder) (g.F.Folder.is_stored c.args.self.now.folder)
-    (g.W.Write.contents c.args.writer.now) (g.W.Write.contents c.write_text.new.writer) c.write_text.ensures.ok)
+    (g.W.Write.contents c.args.writer.now) (g.W.Write.contents c.write_text.new.writer) (search rules)
+    c.write_text.ensures.ok)
 
 pub returns-in-Help-clause-left : goal.returns-in-Help-clause-left
 returns-in-Help-clause-left g c =
@@ -24,7 +25,8 @@ returns-in-Help-clause-left g c =
     (g.W.Write.contents c.write_text.new.writer))) (sym c.in-Help.is)
     (help_left c.write_text.result c.args.self.now.engine.state c.as_bytes.result.now
     (g.F.Folder.entries c.args.self.now.folder) (g.F.Folder.is_stored c.args.self.now.folder)
-    (g.W.Write.contents c.args.writer.now) (g.W.Write.contents c.write_text.new.writer) c.write_text.ensures.err)
+    (g.W.Write.contents c.args.writer.now) (g.W.Write.contents c.write_text.new.writer) (search rules)
+    c.write_text.ensures.err)
 
 pub returns-in-Status-clause-taken : goal.returns-in-Status-clause-taken
 returns-in-Status-clause-taken g c =

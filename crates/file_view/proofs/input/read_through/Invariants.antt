@@ -1,0 +1,6 @@
+use Rattle.std.specs.Io.KnownBytes.{Consumes}
+use Rattle.file_view.proofs.input.read_through.Given as goal
+
+abbrev pub invariant-loop : goal.invariant-loop
+invariant-loop g l =
+    Consumes (g.R.Read.remaining l.fn.reader) (g.R.Read.remaining l.reader) l.bytes.items
