@@ -302,6 +302,7 @@ phase checks run_checks
 # What the gate refused is told again here, where the reader of a long output looks first.
 "$is_gate" && grep -a 'FAILED: \|NOT PROVED' build/gate.log
 printf '%s\n' "${phases[@]}"
+echo "processors: $(nproc), with $(lanes) checks of crates side by side"
 counts="$passed passed, $failed failed"
 [ "$skipped" -eq 0 ] || counts+=", $skipped skipped"
 echo "$counts"
