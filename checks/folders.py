@@ -195,8 +195,14 @@ def second_folders(folders, folder, away):
     no_log = folders.copied(away, "no log")
     (no_log / "log").unlink()
     (no_log / "log").mkdir()
+    pipe, master = folders.copied(away, "a pipe"), folders.place / "a master record alone"
+    (pipe / "log").unlink()
+    os.mkfifo(pipe / "log")
+    master.mkdir()
+    shutil.copy(away / "master", master)
     nowhere, lines = folders.place / "nowhere", len(files_of(away)["manifest"].splitlines())
     for into, name, *told in ((other, "manifest", OTHER), (manifest, "manifest", OTHER), (fork, "log", OTHER),
+                              (master, "master", OTHER), (pipe, "log", "E33 ReadFault", "this is no regular file"),
                               (copy, "copy-1", OTHER), (no_log, "log", "E33 ReadFault", "this is no regular file"),
                               (cut, "manifest", "E33 ReadFault", f"line {lines}: no sum and name: move it away, and open again;"
                                " the database gets a new name then"),
@@ -213,6 +219,7 @@ def second_folders(folders, folder, away):
         folders.wants(f"a second folder stays: {place}", is_left and is_made and is_closed, done)
     newer_folders(folders, folder)
     open_logs(folders, folder)
+    a_name_that_leads_elsewhere(folders)
 
 
 def open_logs(folders, folder):
@@ -236,6 +243,26 @@ def open_logs(folders, folder):
     folders.wants("it stays, too", sums_of(away) == before, done)
     done = folders.run("backup", shop, "--full", "--into", away)
     folders.wants("a log that is closed", done.returncode == 0, done)
+
+
+def a_name_that_leads_elsewhere(folders):
+    """While a database is open, the name of its folder comes to mean another one: that one's files stay, the call is
+    answered that its file is not in place, and the next opening has each commit."""
+    here, there = folders.made("here", FIRST + ["copy"]), folders.made("there", SECOND[:1] + ["set 1 0 0 1", "commit 1", "copy"])
+    name, before = folders.place / "a name", sums_of(there)
+    name.symlink_to(here)
+    life = subprocess.Popen([folders.program, "open", name], stdin=subprocess.PIPE, stdout=subprocess.PIPE,
+                            stderr=subprocess.PIPE, text=True)
+    life.stdout.readline()
+    name.unlink()
+    name.symlink_to(there)
+    answers, errors = life.communicate("".join(f"{it}\n" for it in [*SECOND[:4], "copy on 1"]))
+    told = "".join(f"imgcopy: {name}/{it}: not written: Stale file handle (os error 116)\n" for it in ("master", "manifest", "closed"))
+    done = subprocess.CompletedProcess(life.args, life.returncode, answers.encode(), errors.encode())
+    folders.wants("a name that leads elsewhere", (life.returncode, errors) == (2, told) and answers.endswith("E29 WriteFault 0\n"), done)
+    done = folders.run("open", here, lines=[])
+    folders.wants("the folder that has it", done.returncode == 0 and sums_of(there) == before, done)
+    folders.wants("its commits", restored(folders, here, "copy-1") == {**NUMBERS}, done)
 
 
 def newer_folders(folders, folder):
@@ -468,12 +495,18 @@ def renewals_refused(folders, old):
         folders.wants(f"a renewal: {what}", done.returncode == 2 and not done.stdout and is_told and is_left, done)
     nowhere = folders.place / "nowhere"
     folders.says("no folder", folders.run("renew", nowhere, new), 2, "", "E33 ReadFault", f"imgcopy: {nowhere}: {NOT_THERE}")
+    closed = folders.made("one that is closed", FIRST)
     first = subprocess.Popen([folders.program, "open", old], stdin=subprocess.PIPE, stdout=subprocess.PIPE)
     first.stdout.readline()
-    for words in (["renew", old, new], ["backup", old]):
+    for words in (["renew", old, new], ["backup", old], ["renew", closed, old / "new"]):
         folders.says("one that is open", folders.run(*words), 2, "", "E29 WriteFault 0",
                      f"imgcopy: {old}: another one has this folder open")
     first.communicate(b"")
+    folders.wants("nothing is put into it", not list(old.glob("new*")), done)
+    (closed / "log").unlink()
+    os.mkfifo(closed / "log")
+    folders.says("a log that is a pipe", folders.run("renew", closed, new), 2, "", "E33 ReadFault",
+                 f"imgcopy: {closed}/log: this is no regular file")
 
 
 def a_log_that_is_nearly_full(folders):

@@ -1,6 +1,6 @@
 -- How the names of a folder keep what stood under them, from change to change.
 use Rattle.std.proofs.Common.{◌≡◌, ◌∙◌, ℕ, List, ap, inl, inr, refl, subst, sym}
-use Rattle.std.specs.Prelude.{codes, Err, IfSome, None, Ok, OnOk, Option, Result, Some}
+use Rattle.std.specs.Prelude.{codes, Err, IfErr, IfSome, None, Ok, OnOk, Option, Result, Some}
 use Rattle.std.specs.Io.{StartsWith}
 use Rattle.std.specs.List.{All, Contains}
 use Rattle.saved_files.specs.Folder.{Changes, Entries, IsSame, KeepsBeside, KeepsOthers, Puts}
@@ -79,6 +79,12 @@ same_here (Some old) = λ n. refl
 
 pub same_then : (a b c : Option Entries) → Changes IsSame a b → Changes IsSame b c → Changes IsSame a c
 same_then a b c = then a b c (λ old mid new p q n. q n ∙ p n)
+
+-- what was left as it was behind that
+pub refused_in : {T E : Type 0} (r : Result T E) (is : E → Type 0) (a b c : Option Entries) → Changes IsSame a b
+    → IfErr r (λ why. is why → Changes IsSame b c) → IfErr r (λ why. is why → Changes IsSame a c)
+refused_in (Ok x) is a b c same left = tt
+refused_in (Err why) is a b c same left = λ it. same_then a b c same (left it)
 
 -- what follows where a call ended well
 pub on_ok : {T E A B : Type 0} (r : Result T E) → (A → B) → OnOk r A → OnOk r B

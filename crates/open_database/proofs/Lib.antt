@@ -14,6 +14,7 @@ mod Masters
 mod Notes
 mod Numbers
 mod PowerCuts
+mod PutAside
 mod Puts
 mod Reopened
 mod Runs

@@ -18,6 +18,7 @@ use Rattle.open_database.specs.DatabaseFolder.{AreOf, AreFirstOf, HasLength, Has
 use Rattle.open_database.specs.Copies.{ids_unread}
 use Rattle.open_database.specs.Master.{IsUnnamed, TellsWrong}
 use Rattle.open_database.specs.Opened.{Begins, BeginsAnew, GoesOnFromFile, HandsOn, HasNoWidow, TellsOfNoLog}
+use Rattle.open_database.proofs.Masters.{wrong_same}
 use Rattle.open_database.specs.declared.first_line.FirstLine.{FirstLine}
 use Rattle.open_database.specs.declared.first_line.FirstLine.TheVariants.{New, Restarted}
 use Rattle.open_database.specs.declared.log_file.LogFile.{LogFile}
@@ -167,7 +168,7 @@ IsNewLine (Restarted cut taken_back records) = ⊥
 pub goes_on_handed : (entries : Option Entries) (is_salvage : Bool) (count : ℕ) (ids : List ℕ) (pages : Option ℕ)
     (frames : ℕ) (first : FirstLine) (engine : EngineState) (unread : List ℕ) (point : Option Point) (is_wrong : Bool)
     (it : GoesOnFromFile entries is_salvage count ids pages frames first engine) → unread ≡ ids_unread it.files
-    → IsUnnamed it.log it.master point → TellsWrong it.log it.master is_wrong
+    → IsUnnamed it.log it.master point → TellsWrong entries it.log it.master is_wrong
     → HandsOn entries is_salvage first engine unread point is_wrong
 unfolding IsNewLine
 goes_on_handed entries is_salvage count ids pages frames (New made) engine unread point is_wrong it are unnamed tells =
@@ -183,7 +184,8 @@ unfolding goes_on_same
 handed_same old mid is_salvage (New pages) engine unread point is_wrong same on = on
 handed_same old mid is_salvage (Restarted cut taken_back records) engine unread point is_wrong same on =
     let first = Restarted cut taken_back records in
-    (on.0, on.1, on.2, on.3, goes_on_same old mid is_salvage on.0 on.1 on.2 on.3 first engine same on.4, on.5, on.6, on.7)
+    (on.0, on.1, on.2, on.3, goes_on_same old mid is_salvage on.0 on.1 on.2 on.3 first engine same on.4, on.5, on.6,
+    wrong_same old mid on.4.log on.4.master is_wrong same on.7)
 
 -- so it is behind a claim that left the folder as it was
 pub handed_in : {T E : Type 0} (r : Result T E) (first : T → FirstLine) (state : T → EngineState)

@@ -1,6 +1,6 @@
 -- The files of a backup in a second folder.
 use Rattle.std.proofs.Common.{◌≡◌, ◌∙◌, ℕ, ◌+◌, ◌<◌, List, [], ap, get_or, inl, inr, length, refl, subst, sym, take}
-use Rattle.std.specs.Prelude.{◌≢◌, ◌⊎◌, codes, IfSome, None, Option, Some}
+use Rattle.std.specs.Prelude.{◌≢◌, ◌⊎◌, codes, false, IfSome, is_some, None, Option, Some}
 use Rattle.std.specs.Io.{StartsWith}
 use Rattle.std.specs.List.{All}
 use Rattle.std.proofs.lemmas.List.Elements.{All-more, All-nil, All-weaker}
@@ -12,9 +12,10 @@ use Rattle.saved_files.specs.Saved.{name_of}
 use Rattle.saved_files.specs.declared.saved_name.SavedName.TheVariants as saved
 use Rattle.open_database.specs.Backups.{AddsCopies, AddsFiles, AreBackedUp, FillsCopies, FillsCopy, IsBackedUp, IsBackup}
 use Rattle.open_database.specs.Backups.{IsBeginningOf, IsCopyOf, IsFilled, IsOfSame, KeepsBut}
-use Rattle.open_database.specs.Backups.{KeepsOtherFiles, KeepsTheRest, NotesCopies, NotesOnly}
+use Rattle.open_database.specs.Backups.{HasManifestOf, KeepsOtherFiles, KeepsTheRest, NotesCopies, NotesOnly}
 use Rattle.open_database.specs.Backups.{IsFirsts, IsOldOrFirst, KeepsOrPuts, PutsManifestLast, UnlessUnsynced}
-use Rattle.open_database.specs.DatabaseFolder.{HasBytes, Reads, ReadsIn}
+use Rattle.open_database.specs.DatabaseFolder.{AreOf, HasBytes, Reads, ReadsIn}
+use Rattle.open_database.specs.Found.{IsFoundAt, SpellsManifest}
 use Rattle.open_database.specs.Kept.{Names}
 use Rattle.open_database.specs.Standing.{IsUnfinished, KeepsFinished}
 use Rattle.open_database.proofs.SecondNames.{by_test, copy_apart, copy_finished}
@@ -285,14 +286,23 @@ begun items log (Some it) absent read begins = tt
 begun items log (Some it) unsynced read begins = tt
 begun items log (Some it) (stored all) read begins = subst (StartsWith log) (same_some (items it) all read) begins
 
+-- where no log was read, no master record stands there
+none_alone : {V : Type 0} (items : V → List ℕ) (older : Option V) (there master : FolderEntry)
+    → ReadsIn older items there → (is_some older ≡ false → master ≡ absent) → there ≡ absent → master ≡ absent
+none_alone items None there master read none gone = none refl
+none_alone items (Some it) there master read none gone =
+    absurd (subst (λ (e : FolderEntry). AreOf e (Some (items it))) gone read)
+
 -- what was read of a log is a beginning of this one, and each copy is the same
 pub of_same_read : {V : Type 0} (items : V → List ℕ) (first : Option Entries) (log ids : List ℕ) (older : Option V)
     (e : Option Entries) → Reads older items e (name_of saved.Log) → IfSome older (λ it. StartsWith log (items it))
+    → (is_some older ≡ false → IfSome e (λ it. it (name_of saved.Master) ≡ absent))
     → IfSome e (λ it. All (λ id. IsCopyOf first (name_of (saved.Copy id)) (it (name_of (saved.Copy id)))) ids)
     → IfSome e (IsOfSame first log ids)
-of_same_read items first log ids older None read begins same = tt
-of_same_read items first log ids older (Some it) read begins same = record {
+of_same_read items first log ids older None read begins alone same = tt
+of_same_read items first log ids older (Some it) read begins alone same = record {
   begins = begun items log older (it (name_of saved.Log)) read begins;
+  master = none_alone items older (it (name_of saved.Log)) (it (name_of saved.Master)) read alone;
   same = same;
 }
 
@@ -300,6 +310,8 @@ still_same : (first : Option Entries) (log ids : List ℕ) (old new : Entries) �
     → IsOfSame first log ids old → IsOfSame first log ids new
 still_same first log ids old new kept it = record {
   begins = subst (IsBeginningOf log) (sym (kept (name_of saved.Log) log_finished)) it.begins;
+  master = λ gone. kept (name_of saved.Master) master_finished
+      ∙ it.master (sym (kept (name_of saved.Log) log_finished) ∙ gone);
   same = λ i x lt. let name = name_of (saved.Copy (get_or ids i x)) in
       subst (IsCopyOf first name) (sym (kept name (copy_finished (get_or ids i x)))) (it.same i x lt);
 }
@@ -312,6 +324,14 @@ of_same_cleared first log ids a b =
 -- a claim, and what is unfinished is removed
 pub cleared : (a b c : Option Entries) → Changes IsSame a b → Changes KeepsFinished b c → Changes KeepsFinished a c
 cleared a b c = then a b c (λ old mid new same kept n whole. kept n whole ∙ same n)
+
+-- the folder was left as it was meanwhile
+pub of_database_same : (database : List ℕ) (a b : Option Entries) → Changes IsSame a b → HasManifestOf database b
+    → HasManifestOf database a
+of_database_same database None b same it = (it.0, tt, it.2)
+of_database_same database (Some old) None same it = absurd same
+of_database_same database (Some old) (Some mid) same it =
+    (it.0, subst (λ (e : FolderEntry). IsFoundAt SpellsManifest e it.0) (same (codes "manifest")) it.1, it.2)
 
 backup_since : (first : Option Entries) (ids database : List ℕ) (old mid new : Entries) → KeepsFinished old mid
     → IsBackup first ids database mid new → IsBackup first ids database old new

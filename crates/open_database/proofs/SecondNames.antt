@@ -20,22 +20,73 @@ by_test a b = go (bytes_eq a b) refl
     go true is = inl ((bytes_eq-Decides a b).0 is)
     go false is = inr (λ same. true≢false (sym ((bytes_eq-Decides a b).1 same) ∙ is))
 
--- ---- what is unfinished has a dot in its name
+-- ---- whether a byte is in a name
 
-abbrev has_dot : List ℕ → Bool
-has_dot [] = false
-has_dot (x ∷ xs) = nat_eq x 46 || has_dot xs
+abbrev pub has : ℕ → List ℕ → Bool
+has b [] = false
+has b (x ∷ xs) = nat_eq x b || has b xs
 
 or_true : (a b : Bool) → b ≡ true → (a || b) ≡ true
 or_true true b is = refl
 or_true false b is = is
 
-dot_there : (whole rest : List ℕ) → has_dot (whole ++ (codes ".unfinished-" ++ rest)) ≡ true
-dot_there [] rest = refl
-dot_there (x ∷ xs) rest = or_true (nat_eq x 46) _ (dot_there xs rest)
+pub has_behind : (b : ℕ) (xs ys : List ℕ) → has b ys ≡ true → has b (xs ++ ys) ≡ true
+has_behind b [] ys is = is
+has_behind b (x ∷ xs) ys is = or_true (nat_eq x b) _ (has_behind b xs ys is)
 
-pub is_finished : (n : List ℕ) → has_dot n ≡ false → ¬ IsUnfinished n
-is_finished n none it = true≢false (sym (dot_there it.0 it.1) ∙ ap has_dot (sym it.2) ∙ none)
+pub has_in_none : (b : ℕ) (xs ys : List ℕ) → has b xs ≡ false → has b ys ≡ false → has b (xs ++ ys) ≡ false
+has_in_none b [] ys p q = q
+has_in_none b (x ∷ xs) ys p q = go (nat_eq x b) (has b xs) _ (λ none. has_in_none b xs ys none q) p
+  where
+    go : (t a c : Bool) → (a ≡ false → c ≡ false) → (t || a) ≡ false → (t || c) ≡ false
+    go true a c rest p = p
+    go false a c rest p = rest p
+
+-- a dot and an h are no digits
+pub data IsNoDigit : ℕ → Type 0 where
+  a_dot : IsNoDigit 46
+  an_h : IsNoDigit 104
+
+no_digit : (b : ℕ) (t : Bool) (n : ℕ) (acc : List ℕ) → IsNoDigit b → has b acc ≡ false
+    → has b ((if t then 48 + n % 10 else 87 + n % 10) ∷ acc) ≡ false
+no_digit b true n acc a_dot none =
+    let first : nat_eq (48 + n % 10) 46 ≡ false = grind (arith, nat_tests) in
+    ap (λ (t : Bool). t || has 46 acc) first ∙ none
+no_digit b false n acc a_dot none =
+    let first : nat_eq (87 + n % 10) 46 ≡ false = grind (arith, nat_tests) in
+    ap (λ (t : Bool). t || has 46 acc) first ∙ none
+no_digit b true n acc an_h none =
+    let first : nat_eq (48 + n % 10) 104 ≡ false = grind (arith, nat_tests) in
+    ap (λ (t : Bool). t || has 104 acc) first ∙ none
+no_digit b false n acc an_h none =
+    let first : nat_eq (87 + n % 10) 104 ≡ false = grind (arith, nat_tests) in
+    ap (λ (t : Bool). t || has 104 acc) first ∙ none
+
+one_of : (b : ℕ) (t : Bool) (xs ys : List ℕ) → has b xs ≡ false → has b ys ≡ false
+    → has b (if t then xs else ys) ≡ false
+one_of b true xs ys p q = p
+one_of b false xs ys p q = q
+
+no_digits : (b k n : ℕ) (acc : List ℕ) → IsNoDigit b → has b acc ≡ false → has b (digits_onto k 10 false n acc) ≡ false
+no_digits b zero n acc is none = none
+no_digits b (suc k) n acc is none =
+    let last = no_digit b (nat_lt (n % 10) 10) n acc is none in
+    one_of b (nat_eq (n / 10) 0) (digit_glyph false (n % 10) ∷ acc) _ last
+    (no_digits b k (n / 10) (digit_glyph false (n % 10) ∷ acc) is last)
+
+pub digits_plain : (b n : ℕ) → IsNoDigit b → has b (decimal n) ≡ false
+unfolding digits
+digits_plain b n is = no_digits b 64 n [] is refl
+
+-- ---- what is unfinished has a dot and an h in its name
+
+pub is_finished : (n : List ℕ) → has 46 n ≡ false → ¬ IsUnfinished n
+is_finished n none it = true≢false (sym (has_behind 46 it.0 (codes ".unfinished-" ++ it.1) refl)
+    ∙ ap (has 46) (sym it.2) ∙ none)
+
+pub is_whole : (n : List ℕ) → has 104 n ≡ false → ¬ IsUnfinished n
+is_whole n none it = true≢false (sym (has_behind 104 it.0 (codes ".unfinished-" ++ it.1) refl)
+    ∙ ap (has 104) (sym it.2) ∙ none)
 
 pub log_finished : ¬ IsUnfinished (name_of saved.Log)
 log_finished = is_finished (codes "log") refl
@@ -46,33 +97,8 @@ master_finished = is_finished (codes "master") refl
 pub manifest_finished : ¬ IsUnfinished (codes "manifest")
 manifest_finished = is_finished (codes "manifest") refl
 
--- a digit is no dot
-no_dot : (b : Bool) (d : ℕ) (acc : List ℕ) → has_dot acc ≡ false
-    → has_dot ((if b then 48 + d else 87 + d) ∷ acc) ≡ false
-no_dot true d acc none =
-    let first : nat_eq (48 + d) 46 ≡ false = grind (arith, nat_tests) in
-    ap (λ (t : Bool). t || has_dot acc) first ∙ none
-no_dot false d acc none =
-    let first : nat_eq (87 + d) 46 ≡ false = grind (arith, nat_tests) in
-    ap (λ (t : Bool). t || has_dot acc) first ∙ none
-
-one_of : (b : Bool) (xs ys : List ℕ) → has_dot xs ≡ false → has_dot ys ≡ false → has_dot (if b then xs else ys) ≡ false
-one_of true xs ys x y = x
-one_of false xs ys x y = y
-
-no_dots : (k n : ℕ) (acc : List ℕ) → has_dot acc ≡ false → has_dot (digits_onto k 10 false n acc) ≡ false
-no_dots zero n acc none = none
-no_dots (suc k) n acc none =
-    let last = no_dot (nat_lt (n % 10) 10) (n % 10) acc none in
-    one_of (nat_eq (n / 10) 0) (digit_glyph false (n % 10) ∷ acc) _ last
-    (no_dots k (n / 10) (digit_glyph false (n % 10) ∷ acc) last)
-
-digits_plain : (n : ℕ) → has_dot (decimal n) ≡ false
-unfolding digits
-digits_plain n = no_dots 64 n [] refl
-
 pub copy_finished : (id : ℕ) → ¬ IsUnfinished (name_of (saved.Copy id))
-copy_finished id = is_finished (codes "copy-" ++ decimal id) (digits_plain id)
+copy_finished id = is_finished (codes "copy-" ++ decimal id) (digits_plain 46 id a_dot)
 
 pub beside_unfinished : (name n : List ℕ) → IsBeside name n → IsUnfinished n
 beside_unfinished name n it = (name, decimal it.0, it.1)

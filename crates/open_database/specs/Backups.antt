@@ -1,5 +1,5 @@
 -- What a backup makes: a checkpoint, a copy behind it, and files in a second folder.
-use Rattle.std.specs.Prelude.{ℕ, ◌≡◌, ◌≢◌, ◌⊎◌, Bool, true, false, codes, List, [], ◌∷◌, None}
+use Rattle.std.specs.Prelude.{ℕ, ◌≡◌, ◌≢◌, ◌⊎◌, Bool, true, false, codes, IfSome, List, [], ◌∷◌, None}
 use Rattle.std.specs.Prelude.{Ok, Option, Some, suc, zero}
 use Rattle.std.specs.Io.{StartsWith}
 use Rattle.std.specs.Io.KnownBytes.{Appends}
@@ -22,6 +22,7 @@ use Rattle.saved_files.specs.Saved.{name_of}
 use Rattle.saved_files.specs.declared.saved_name.SavedName.TheVariants as saved
 use Rattle.open_database.specs.Closed.{ClosesWell}
 use Rattle.open_database.specs.DatabaseFolder.{HasBytes}
+use Rattle.open_database.specs.Found.{IsFoundIn, SpellsManifest}
 use Rattle.open_database.specs.Kept.{Names}
 use Rattle.open_database.specs.MadeFiles.{HasFile}
 use Rattle.open_database.specs.Opened.{Begins}
@@ -95,6 +96,12 @@ pub record WasBackedUp (full : Bool) (told : Option ℕ) : Type 0 where
 
 -- ---- the files of a backup in a second folder
 
+-- the manifest that stands there, if one does, is of this database
+abbrev pub HasManifestOf : List ℕ → Option Entries → Type 0
+HasManifestOf database entries = (found : Option Listed)
+    × IsFoundIn SpellsManifest entries (codes "manifest") found
+    × IfSome found (λ it. it.database ≡ database)
+
 -- a log that is stored there is a beginning of this one
 abbrev pub IsBeginningOf : List ℕ → FolderEntry → Type 0
 IsBeginningOf log absent = Unit {0}
@@ -107,10 +114,12 @@ IsCopyOf first name absent = Unit {0}
 IsCopyOf first name unsynced = Unit {0}
 IsCopyOf first name (stored bytes) = HasBytes first name bytes
 
--- what stands there is of the same database as this log: the log there is a beginning of it, and
--- each of these copies that is there is the first folder's
+-- what stands there is of the same database as this log: the log there is a beginning of it, a
+-- master record stands only beside that, and each of these copies that is there is the first
+-- folder's
 pub record IsOfSame (first : Option Entries) (log ids : List ℕ) (second : Entries) : Type 0 where
   pub begins : IsBeginningOf log (second (name_of saved.Log))
+  pub master : second (name_of saved.Log) ≡ absent → second (name_of saved.Master) ≡ absent
   pub same : All (λ id. IsCopyOf first (name_of (saved.Copy id))
       (second (name_of (saved.Copy id)))) ids
 

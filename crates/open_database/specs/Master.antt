@@ -1,6 +1,6 @@
 -- The master record, as it is found.
-use Rattle.std.specs.Prelude.{ℕ, ◌≡◌, ◌↔◌, ◌≤◌, ◌⊎◌, Bool, IsSomeAnd, IsTrue, List, Option, Some}
-use Rattle.std.specs.Prelude.{None}
+use Rattle.std.specs.Prelude.{ℕ, ◌≡◌, ◌≢◌, ◌↔◌, ◌≤◌, ◌⊎◌, Bool, IfSome, IsSomeAnd, IsTrue, List}
+use Rattle.std.specs.Prelude.{None, Option, Some, codes, false, true}
 use Rattle.std.specs.Prelude.{slice_get}
 use Rattle.fuzzy_ckpt.specs.LogCheckpoints.{IsLastPoint}
 use Rattle.fuzzy_ckpt.specs.declared.point.Point.{Point}
@@ -8,9 +8,16 @@ use Rattle.log_records.specs.Log.{Log}
 use Rattle.log_records.specs.declared.record.Record.{Record}
 use Rattle.log_records.specs.declared.record.Record.TheVariants.{EndChkpt}
 use Rattle.log_store.specs.declared.master.Master.{Master}
+use Rattle.saved_files.specs.Folder.{Entries, absent}
 use Rattle.open_database.specs.Kept.{count_below}
 use Rattle.open_database.specs.declared.found_master.FoundMaster.{FoundMaster}
 use Rattle.open_database.specs.declared.found_master.FoundMaster.TheVariants as found
+
+-- nothing stands there
+abbrev pub is_absent : FoundMaster → Bool
+is_absent found.Absent = true
+is_absent (found.Spelled master) = false
+is_absent found.Wrong = false
 
 -- the one that stands there, if one is spelled
 abbrev pub spelled : FoundMaster → Option Master
@@ -48,8 +55,8 @@ IsOfRecords records found.Absent = Unit {0}
 IsOfRecords records (found.Spelled master) = HasCheckpointOf records master
 IsOfRecords records found.Wrong = ⊥
 
--- it is told whether what stands as the master record, which spells this one if it spells one, is
--- of another log
-abbrev pub TellsWrong : Log → Option Master → Bool → Type 0
-TellsWrong log master is_wrong = (it : FoundMaster) × (spelled it ≡ master)
-    × (IsTrue is_wrong ↔ (¬ IsOfRecords log.records it))
+-- it is told whether something stands as the master record, which spells this one if it spells one,
+-- that names no checkpoint of this log
+abbrev pub TellsWrong : Option Entries → Log → Option Master → Bool → Type 0
+TellsWrong entries log master is_wrong = IfSome entries (λ there. IsTrue is_wrong
+    ↔ ((there (codes "master") ≢ absent) × ¬ IsSomeAnd master (HasCheckpointOf log.records)))

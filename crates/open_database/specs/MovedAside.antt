@@ -1,9 +1,10 @@
 -- Files that get another name.
-use Rattle.std.specs.Prelude.{ℕ, ◌≡◌, ◌⊎◌, ◌++◌, [], ◌∷◌, IfSome, List, None, Option, Some, codes}
+use Rattle.std.specs.Prelude.{ℕ, ◌≡◌, ◌≢◌, ◌⊎◌, ◌++◌, [], ◌∷◌, IfSome, List, None, Option, Some, codes}
 use Rattle.std.specs.Prelude.{decimal}
-use Rattle.saved_files.specs.Folder.{Changes, Entries, IsRenamed, Puts, absent}
+use Rattle.saved_files.specs.Folder.{Changes, Entries, IsRenamed, IsSame, Puts, absent}
 use Rattle.saved_files.specs.Saved.{name_of}
 use Rattle.saved_files.specs.declared.saved_name.SavedName.TheVariants as saved
+use Rattle.open_database.specs.Standing.{IsLeftAlone}
 use Rattle.open_database.specs.declared.evidence.Claim.{Claim}
 use Rattle.open_database.specs.declared.evidence.Witness.{Witness}
 use Rattle.open_database.specs.declared.evidence.Witness.TheVariants as witness
@@ -21,6 +22,11 @@ IsAside name aside = (aside ≡ name ++ codes ".refused")
 abbrev pub IsMoved : List ℕ → Option Entries → Option Entries → Type 0
 IsMoved name old new = (aside : List ℕ) × IsAside name aside × IsFree aside old
     × Changes (IsRenamed name aside) old new
+
+-- all is as it was, or what had this name has such a one, which nothing had
+abbrev pub KeepsOrMoves : List ℕ → Entries → Entries → Type 0
+KeepsOrMoves name old new = IsSame old new
+    ⊎ ((aside : List ℕ) × IsAside name aside × (old aside ≡ absent) × IsRenamed name aside old new)
 
 -- nothing had this name, and all is as it was; or what had it has another one
 abbrev pub IsCleared : List ℕ → Option Entries → Option Entries → Type 0
@@ -58,6 +64,16 @@ file_name_of witness.Record = None
 abbrev pub IsSilencedAt : Option (List ℕ) → Option Entries → Option Entries → Type 0
 IsSilencedAt None old new = new ≡ old
 IsSilencedAt (Some name) old new = IsFreed name old new (new ≡ old) (Unit {0})
+
+-- the file of this name may know of more
+abbrev pub MayKnowMore : List ℕ → Type 0
+MayKnowMore name = (witness : Witness) × (file_name_of witness ≡ Some name)
+
+-- each file that an opening leaves alone stands there as it was, under its name; but one that may
+-- know of more than the log has may have the name of a refused file
+abbrev pub KeepsOrPutsAside : Entries → Entries → Type 0
+KeepsOrPutsAside old new = (n : List ℕ) → IsLeftAlone n → old n ≢ absent → (new n ≡ old n)
+    ⊎ (MayKnowMore n × (aside : List ℕ) × IsAside n aside × (new aside ≡ old n))
 
 -- one after another, the files of these claims get other names
 pub data AreSilenced (begun : Option Entries) : List Claim → Option Entries → Type 0 where

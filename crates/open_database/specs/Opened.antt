@@ -123,4 +123,4 @@ HandsOn entries is_salvage (Restarted cut taken_back records) engine unread poin
     × (it : GoesOnFromFile entries is_salvage count ids pages frames
     (Restarted cut taken_back records) engine)
     × (unread ≡ ids_unread it.files) × IsUnnamed it.log it.master point
-    × TellsWrong it.log it.master is_wrong
+    × TellsWrong entries it.log it.master is_wrong

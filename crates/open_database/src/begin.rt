@@ -6,6 +6,7 @@ ghost use Rattle.log_records.specs.Log.{IsPageCount};
 ghost use Rattle.engine_rules.specs.EngineState.{new_state};
 ghost use Rattle.page_core.specs.Volume.{formatted_pages};
 ghost use Rattle.saved_files.specs.Folder.{Changes, KeepsOthers};
+ghost use Rattle.open_database.specs.Closed.{KeepsNote};
 ghost use Rattle.open_database.specs.Standing.{KeepsFiles};
 
 use crate::change_fault::ChangeFault;
@@ -32,6 +33,7 @@ pub(crate) fn begin<F: DatabaseFolder>(
     requires claimed { F.is_claimed folder.old }
     ensures new { IfOk result (λ it. it.state ≡ new_state setup.pages setup.frames) }
     ensures kept { Changes KeepsFiles (F.entries folder.old) (F.entries folder.new) }
+    ensures note { OnOk result (KeepsNote (F.entries folder.old) (F.entries folder.new)) }
     ensures stored { OnOk result (F.is_stored folder.new) }
     ensures claimed { F.is_claimed folder.new }
 {

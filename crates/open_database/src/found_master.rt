@@ -1,10 +1,10 @@
 //! The file of the master record, as it is found in a folder.
 
-ghost use Rattle.std.specs.Prelude.{◌↔◌, IfOk, IsTrue};
+ghost use Rattle.std.specs.Prelude.{◌≡◌, ◌↔◌, IfOk, IsTrue, false, not};
 ghost use Rattle.log_store.specs.Master.{SpellsMaster};
 ghost use Rattle.open_database.specs.DatabaseFolder.{Tells};
 ghost use Rattle.open_database.specs.Found.{IsFoundIn, IsReadOf};
-ghost use Rattle.open_database.specs.Master.{HasCheckpointOf, spelled};
+ghost use Rattle.open_database.specs.Master.{HasCheckpointOf, is_absent, spelled};
 
 use crate::database_folder::{DatabaseFolder, Standing};
 use crate::fault::OpenFault;
@@ -83,8 +83,9 @@ pub(crate) fn read_master<F: DatabaseFolder>(
     folder: &F,
     is_there: bool,
 ) -> Result<FoundMaster, OpenFault>
-    ensures { IfOk result (λ it. Tells (F.entries folder.now) MASTER.now is_there
+    ensures found { IfOk result (λ it. Tells (F.entries folder.now) MASTER.now is_there
         → IsFoundIn SpellsMaster (F.entries folder.now) MASTER.now (spelled it)) }
+    ensures absent { IfOk result (λ it. is_absent it ≡ not is_there) }
 {
     if !is_there {
         return Ok(FoundMaster::Absent);
@@ -101,7 +102,8 @@ pub(crate) fn read_master<F: DatabaseFolder>(
 
 /// The master record that these bytes spell, if they spell one.
 fn master_in(bytes: &[u8]) -> FoundMaster
-    ensures { IsReadOf SpellsMaster bytes.now (spelled result) }
+    ensures read { IsReadOf SpellsMaster bytes.now (spelled result) }
+    ensures there { is_absent result ≡ false }
 {
     match decode_master(bytes) {
         Some(master) => FoundMaster::Spelled(master),

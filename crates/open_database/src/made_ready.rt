@@ -11,7 +11,8 @@ ghost use Rattle.open_database.specs.DatabaseFolder.{Tells};
 ghost use Rattle.saved_files.specs.Folder.{Changes, IsSame, KeepsOthers};
 ghost use Rattle.open_database.specs.LeftOut.{IsKept, IsWorthKeeping, WasKept};
 ghost use Rattle.open_database.specs.LeftOut.{behind};
-ghost use Rattle.open_database.specs.MovedAside.{AreSilenced, IsSilencedAt, file_name_of};
+ghost use Rattle.open_database.specs.MovedAside.{AreSilenced, IsSilencedAt, KeepsOrPutsAside};
+ghost use Rattle.open_database.specs.MovedAside.{file_name_of};
 ghost use Rattle.open_database.specs.Standing.{KeepsFiles};
 
 use crate::begin::code_of;
@@ -44,6 +45,9 @@ pub(crate) fn silence<F: DatabaseFolder>(
         (AreSilenced (F.entries folder.old) loss.now.claims.items (F.entries folder.new)) }
     ensures none { loss.now.claims.items ≡ []
         → Changes IsSame (F.entries folder.old) (F.entries folder.new) }
+    // However that ends, each file stands there still, and there is no other note of a closing.
+    ensures stays { Changes KeepsOrPutsAside (F.entries folder.old) (F.entries folder.new) }
+    ensures note { KeepsNote (F.entries folder.old) (F.entries folder.new) }
     ensures claimed { F.is_claimed folder.new }
 {
     if loss.is_none() {
@@ -68,6 +72,8 @@ fn move_witness_aside<F: DatabaseFolder>(
     requires { F.is_claimed folder.old }
     ensures silenced { OnOk result
         (IsSilencedAt (file_name_of witness) (F.entries folder.old) (F.entries folder.new)) }
+    ensures stays { Changes KeepsOrPutsAside (F.entries folder.old) (F.entries folder.new) }
+    ensures note { KeepsNote (F.entries folder.old) (F.entries folder.new) }
     ensures claimed { F.is_claimed folder.new }
 {
     match witness {

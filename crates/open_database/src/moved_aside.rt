@@ -1,10 +1,10 @@
 //! What has a name that a file of this life is to have gets another name.
 
 ghost use Rattle.std.specs.Prelude.{◌≡◌, IfOk, OnOk, string_bytes};
-ghost use Rattle.saved_files.specs.Folder.{Changes, IsRenamed};
+ghost use Rattle.saved_files.specs.Folder.{Changes, IsRenamed, RenamesOrKeeps};
 ghost use Rattle.saved_files.specs.Saved.{name_of};
 ghost use Rattle.saved_files.specs.declared.saved_name.SavedName.TheVariants as saved;
-ghost use Rattle.open_database.specs.MovedAside.{IsAside, IsFree, IsFreed};
+ghost use Rattle.open_database.specs.MovedAside.{IsAside, IsFree, IsFreed, KeepsOrMoves};
 
 use crate::database_folder::DatabaseFolder;
 use crate::names::{MANIFEST, MASTER};
@@ -54,6 +54,8 @@ pub(crate) fn move_copy_aside<F: DatabaseFolder>(
     ensures name { IfOk result (λ name. name ≡ id) }
     ensures freed { OnOk result (IsFreed (name_of (saved.Copy id)) (F.entries folder.old)
         (F.entries folder.new) (folder.new ≡ folder.old) (F.is_stored folder.new)) }
+    ensures either { Changes (KeepsOrMoves (name_of (saved.Copy id)))
+        (F.entries folder.old) (F.entries folder.new) }
     ensures claimed { F.is_claimed folder.new }
 {
     let name = format!(in teller.alloc; "{}", SavedName::Copy(id))?;
@@ -69,6 +71,8 @@ pub(crate) fn move_master_aside<F: DatabaseFolder>(
     requires { F.is_claimed folder.old }
     ensures freed { OnOk result (IsFreed MASTER.now (F.entries folder.old)
         (F.entries folder.new) (folder.new ≡ folder.old) (F.is_stored folder.new)) }
+    ensures either { Changes (KeepsOrMoves MASTER.now)
+        (F.entries folder.old) (F.entries folder.new) }
     ensures claimed { F.is_claimed folder.new }
 {
     move_aside(teller, folder, MASTER, Place::Master)
@@ -82,6 +86,8 @@ pub(crate) fn move_manifest_aside<F: DatabaseFolder>(
     requires { F.is_claimed folder.old }
     ensures freed { OnOk result (IsFreed MANIFEST.now (F.entries folder.old)
         (F.entries folder.new) (folder.new ≡ folder.old) (F.is_stored folder.new)) }
+    ensures either { Changes (KeepsOrMoves MANIFEST.now)
+        (F.entries folder.old) (F.entries folder.new) }
     ensures claimed { F.is_claimed folder.new }
 {
     move_aside(teller, folder, MANIFEST, Place::Manifest)
@@ -97,6 +103,9 @@ fn move_aside<F: DatabaseFolder>(
     requires { F.is_claimed folder.old }
     ensures freed { OnOk result (IsFreed name.now (F.entries folder.old)
         (F.entries folder.new) (folder.new ≡ folder.old) (F.is_stored folder.new)) }
+    // Where that fails, too, what had the name has it, or a name that nothing had.
+    ensures either { Changes (KeepsOrMoves name.now)
+        (F.entries folder.old) (F.entries folder.new) }
     ensures claimed { F.is_claimed folder.new }
 {
     if !folder.has(name)? {
@@ -114,6 +123,8 @@ fn rename_lastingly<F: Folder>(folder: &mut F, from: &str, to: &str) -> io::Resu
     requires { F.is_claimed folder.old }
     ensures renamed { OnOk result
         (Changes (IsRenamed from.now to.now) (F.entries folder.old) (F.entries folder.new)) }
+    ensures either { Changes (RenamesOrKeeps from.now to.now)
+        (F.entries folder.old) (F.entries folder.new) }
     ensures stored { OnOk result (F.is_stored folder.new) }
     ensures claimed { F.is_claimed folder.new }
 {

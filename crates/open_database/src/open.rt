@@ -8,12 +8,13 @@ ghost use Rattle.log_records.specs.Log.{IsPageCount};
 ghost use Rattle.saved_files.specs.Folder.{Changes, IsSame};
 ghost use Rattle.std.specs.Io.KnownBytes.{Appends};
 ghost use Rattle.open_database.specs.Calls.{Lives};
-ghost use Rattle.open_database.specs.Closed.{IsNoted};
+ghost use Rattle.open_database.specs.Closed.{IsNoted, IsWithoutNote};
 ghost use Rattle.open_database.specs.DatabaseFolder.{HasNoOtherVolume, OpensLog};
 ghost use Rattle.open_database.specs.FirstLine.{first_line};
 ghost use Rattle.open_database.specs.Evidence.{log_line};
 ghost use Rattle.open_database.specs.Found.{IsFoundIn, IsInventoryOf, SpellsManifest};
 ghost use Rattle.open_database.specs.MadeFiles.{HasFile, is_master};
+ghost use Rattle.open_database.specs.MovedAside.{KeepsOrPutsAside};
 ghost use Rattle.open_database.specs.Opened.{Begins, BeginsAnew, HandsOn, HasNoWidow, len_of};
 ghost use Rattle.open_database.specs.Refused.{IsRefusal};
 ghost use Rattle.open_database.specs.Session.{LeavesLine, LivesByAllLines, LivesByLines};
@@ -259,6 +260,10 @@ pub(crate) fn opened<F: DatabaseFolder>(
     // closing and what is unfinished, unless what is left of a log is to be opened.
     ensures kept { call.now.salvage ≡ false
         → Changes KeepsFiles (F.entries folder.old) (F.entries folder.new) }
+    // What is left of a log is to be opened: a file that knows of more may get another name.
+    ensures stays { Changes KeepsOrPutsAside (F.entries folder.old) (F.entries folder.new) }
+    // The note of the last closing says nothing of what comes now.
+    ensures gone { OnOk result (IsWithoutNote (F.entries folder.new)) }
     // The folder was only looked at.
     ensures refused { IfErr result (λ fault. IsRefusal fault
         → Changes IsSame (F.entries folder.old) (F.entries folder.new)) }
@@ -291,6 +296,8 @@ fn open_from<F: DatabaseFolder>(
         it.engine.state) }
     ensures kept { call.now.salvage ≡ false
         → Changes KeepsFiles (F.entries folder.old) (F.entries folder.new) }
+    ensures stays { Changes KeepsOrPutsAside (F.entries folder.old) (F.entries folder.new) }
+    ensures gone { OnOk result (IsWithoutNote (F.entries folder.new)) }
     ensures handed { IfOk result (λ it. HandsOn (F.entries folder.old) call.now.salvage it.first
         it.engine.state it.unread.items it.point it.is_master_wrong) }
     ensures refused { IfErr result (λ fault. IsRefusal fault
@@ -324,6 +331,7 @@ fn begun<F: DatabaseFolder>(
     ensures handed { IfOk result (λ it. HandsOn (F.entries folder.old) call.now.salvage it.first
         it.engine.state it.unread.items it.point it.is_master_wrong) }
     ensures kept { Changes KeepsFiles (F.entries folder.old) (F.entries folder.new) }
+    ensures gone { OnOk result (IsWithoutNote (F.entries folder.new)) }
     // The names of the log and of the volume last.
     ensures stored { IfOk result (λ _. F.is_stored folder.new) }
     ensures refused { IfErr result (λ fault. IsRefusal fault

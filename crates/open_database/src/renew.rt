@@ -128,6 +128,9 @@ fn made_folder(
     let path = format!(in alloc; "{folder}/{unfinished}")?;
     let whole = format!(in alloc; "{folder}/{name}")?;
     parent.open().map_err(OpenFault::of_folder)?;
+    // Nothing is put into the folder of a database that is open.
+    parent.claim_soon()?;
+    parent.open().map_err(OpenFault::of_folder)?;
     match fs::symlink_metadata(rt, whole.as_str()) {
         Err(error) if error.kind() == ErrorKind::NotFound => {}
         Err(error) => return Err(OpenFault::of_folder(error)),

@@ -1,7 +1,7 @@
 //! A database that is opened again.
 
 ghost use Rattle.std.specs.Prelude.{◌≡◌, ◌≢◌, ◌⊎◌, ◌↔◌, [], false, IfErr, IfOk, IfSome};
-ghost use Rattle.std.specs.Prelude.{None, OnOk, length, map};
+ghost use Rattle.std.specs.Prelude.{IsTrue, None, OnOk, length, map, not};
 ghost use Rattle.std.specs.List.Sorted.{IsNonDecreasing};
 ghost use Rattle.buffer_pool.specs.Pool.{IsFrameCount};
 ghost use Rattle.engine_restart.specs.LogFile.{LastsOnFile};
@@ -11,7 +11,7 @@ ghost use Rattle.log_front.specs.Front.{IsFrontOf, end_of};
 ghost use Rattle.log_records.specs.Log.{IsLog, IsPageCount, log_bytes, page_count};
 ghost use Rattle.log_rules.specs.Linked.{IsLinked};
 ghost use Rattle.log_rules.specs.Transactions.{open_in};
-ghost use Rattle.open_database.specs.Closed.{IsVouched, SpellsNote};
+ghost use Rattle.open_database.specs.Closed.{IsVouched, IsWithoutNote, SpellsNote};
 ghost use Rattle.open_database.specs.Copies.{TakesUp, ids_unread};
 ghost use Rattle.open_database.specs.DatabaseFolder.{HasLogBytes, HasNoOtherVolume, IsLogIn};
 ghost use Rattle.saved_files.specs.Folder.{Changes, IsSame, KeepsOthers};
@@ -20,7 +20,8 @@ ghost use Rattle.open_database.specs.FirstLine.{told_of};
 ghost use Rattle.open_database.specs.Found.{AreFoundIn, IsFoundIn, IsInventoryOf};
 ghost use Rattle.open_database.specs.LeftOut.{IsWorthKeeping, WasKept};
 ghost use Rattle.open_database.specs.LeftOut.{behind};
-ghost use Rattle.open_database.specs.Master.{IsUnnamed, TellsWrong, spelled};
+ghost use Rattle.open_database.specs.Master.{IsOfRecords, IsUnnamed, is_absent, spelled};
+ghost use Rattle.open_database.specs.MovedAside.{KeepsOrPutsAside};
 ghost use Rattle.open_database.specs.Opened.{GoesOnFromFile, GoesOnWith, HandsOn};
 ghost use Rattle.open_database.specs.Refused.{IsLoss, IsRefusal};
 ghost use Rattle.open_database.specs.Standing.{KeepsFiles};
@@ -110,6 +111,8 @@ pub(crate) fn reopen<F: DatabaseFolder>(
         it.engine.state) }
     ensures kept { call.now.salvage ≡ false
         → Changes KeepsFiles (F.entries folder.old) (F.entries folder.new) }
+    ensures stays { Changes KeepsOrPutsAside (F.entries folder.old) (F.entries folder.new) }
+    ensures gone { OnOk result (IsWithoutNote (F.entries folder.new)) }
     ensures handed { IfOk result (λ it. HandsOn (F.entries folder.old) call.now.salvage it.first
         it.engine.state it.unread.items it.point it.is_master_wrong) }
     ensures refused { IfErr result (λ fault. IsRefusal fault
@@ -143,6 +146,7 @@ fn find<F: DatabaseFolder>(
         map (λ file. file.id) it.others.copies.items ≡ there.now.copies.items) }
     ensures others { IfOk result (λ it. AreFoundIn (F.entries folder.now) it.others.note
         it.others.manifest (spelled it.others.master) it.others.copies.items) }
+    ensures absent { IfOk result (λ it. is_absent it.others.master ≡ not there.now.has_master) }
 {
     let log = found_in::<F>(teller.alloc, log)?;
     match find_others(teller, folder, there) {
@@ -163,6 +167,8 @@ pub(crate) fn find_others<F: DatabaseFolder>(
     // What is heard is what stands there.
     ensures found { IfOk result (λ it. AreFoundIn (F.entries folder.now) it.note it.manifest
         (spelled it.master) it.copies.items) }
+    // A master record that spells nothing is not passed over.
+    ensures absent { IfOk result (λ it. is_absent it.master ≡ not there.now.has_master) }
 {
     let alloc = teller.alloc;
     let note = note_there(teller, folder, there)?;
@@ -220,6 +226,9 @@ fn prepare<F: DatabaseFolder>(
     ensures others { remains.new.others ≡ remains.old.others }
     ensures files { call.now.salvage ≡ false
         → Changes KeepsFiles (F.entries folder.old) (F.entries folder.new) }
+    ensures stays { Changes KeepsOrPutsAside (F.entries folder.old) (F.entries folder.new) }
+    // No note of a closing stands there from now on, so none does before any record is stored.
+    ensures gone { OnOk result (IsWithoutNote (F.entries folder.new)) }
     ensures lasting { OnOk result (LastsOnFile remains.new.log.front.log remains.new.log.device) }
     // What stood behind the log has a file of its own,
     ensures kept { OnOk result (remains.old.log.front.cut ≢ None
@@ -349,7 +358,7 @@ fn go_on<F: DatabaseFolder>(
         IsUnnamed found.front.log (spelled beside.0.master) it.point) }
     // What stands there instead is to be moved aside.
     ensures wrong { IfOk result (λ it.
-        TellsWrong found.front.log (spelled beside.0.master) it.is_master_wrong) }
+        IsTrue it.is_master_wrong ↔ (¬ IsOfRecords found.front.log.records beside.0.master)) }
     ensures others { Changes (KeepsOthers VOLUME.now)
         (F.entries folder.old) (F.entries folder.new) }
     ensures claimed { F.is_claimed folder.new }
@@ -392,7 +401,8 @@ impl Facts {
         ensures cut { result.end ≡ end_of front.now.log }
         ensures open { result.taken_back ≡ length (open_in front.now.log.records) }
         ensures unnamed { IsUnnamed front.now.log (spelled master.now) result.unnamed }
-        ensures wrong { TellsWrong front.now.log (spelled master.now) result.is_master_wrong }
+        ensures wrong { IsTrue result.is_master_wrong
+            ↔ (¬ IsOfRecords front.now.log.records master.now) }
     {
         let log = front.log();
         let last = LogCheckpoints::of(front.analysis()).last;

@@ -1,12 +1,13 @@
 //! The files of a backup in a second folder.
 
-ghost use Rattle.std.specs.Prelude.{◌≡◌, IfErr, IfOk, IfSome, IsSomeAnd, OnOk};
+ghost use Rattle.std.specs.Prelude.{◌≡◌, false, IfErr, IfOk, IfSome, IsSomeAnd, OnOk};
 ghost use Rattle.std.specs.Io.{StartsWith};
-ghost use Rattle.saved_files.specs.Folder.{Changes, HasNewOrOld, KeepsOthers, Puts};
+ghost use Rattle.saved_files.specs.Folder.{Changes, HasNewOrOld, KeepsOthers, Puts, absent};
 ghost use Rattle.saved_files.specs.Saved.{name_of};
 ghost use Rattle.saved_files.specs.declared.saved_name.SavedName.TheVariants as saved;
 ghost use Rattle.open_database.specs.Backups.{AddsCopies, AddsFiles, AreBackedUp, FillsCopies};
-ghost use Rattle.open_database.specs.Backups.{FillsCopy, IsBackup, IsCopyOf, IsOfSame, KeepsBut};
+ghost use Rattle.open_database.specs.Backups.{FillsCopy, HasManifestOf, IsBackup, IsCopyOf};
+ghost use Rattle.open_database.specs.Backups.{IsOfSame, KeepsBut};
 ghost use Rattle.open_database.specs.Backups.{KeepsOrPuts, KeepsOtherFiles, KeepsTheRest};
 ghost use Rattle.open_database.specs.Backups.{NotesCopies, NotesOnly, PutsManifestLast};
 ghost use Rattle.open_database.specs.DatabaseFolder.{HasBytes, Reads};
@@ -21,7 +22,7 @@ use crate::fault::OpenFault;
 use crate::found_manifest::read_manifest;
 use crate::kept_manifest::{note_file, without_lost};
 use crate::manifest_file::put_text;
-use crate::names::{MANIFEST, is_unfinished_backup};
+use crate::names::{MANIFEST, MASTER, is_unfinished_backup};
 use crate::place::Place;
 use crate::told::Teller;
 use crate::whole_file::{Bytes, read_whole};
@@ -34,7 +35,8 @@ use std::io::ErrorKind;
 /// Puts the log, the master record and these copies of a database into a second folder, each whole
 /// and synced, or not there, and then a manifest that names them. A copy that is there already
 /// stays. What is there of another database is not touched: the manifest there has to be of this
-/// one, the log there has to be the beginning of this one's, and each copy the same.
+/// one, the log there has to be the beginning of this one's, a master record has to stand beside a
+/// log, and each copy has to be the same.
 pub(crate) fn put_beside<O: DatabaseFolder, F: DatabaseFolder>(
     teller: &Teller<'_>,
     from: &O,
@@ -46,6 +48,8 @@ pub(crate) fn put_beside<O: DatabaseFolder, F: DatabaseFolder>(
         (F.entries folder.old) (F.entries folder.new)) }
     ensures stored { OnOk result (F.is_stored folder.new) }
     ensures claimed { OnOk result (F.is_claimed folder.new) }
+    // Nothing of another database is gone on with.
+    ensures of_this { OnOk result (HasManifestOf database.0 (F.entries folder.old)) }
     ensures rest { Changes (KeepsTheRest (O.entries from.now) copies.now database.0)
         (F.entries folder.old) (F.entries folder.new) }
 {
@@ -68,6 +72,7 @@ fn manifest_beside<F: DatabaseFolder>(
     // Nobody else puts files there meanwhile.
     requires { F.is_claimed folder.now }
     ensures database { IfOk result (λ it. it.database ≡ database.0) }
+    ensures of_this { OnOk result (HasManifestOf database.0 (F.entries folder.now)) }
     ensures lines { IfOk result (λ it. TakesLines (F.entries folder.now) it.entries) }
 {
     let alloc = teller.alloc;
@@ -168,9 +173,21 @@ fn check_all<O: DatabaseFolder, F: DatabaseFolder>(
         (IfSome (F.entries folder.now) (IsOfSame (O.entries from.now) log.now copies.now)) }
 {
     let older = at(alloc, folder, SavedName::Log)?;
+    check_master(folder, older.is_some())?;
     check_beginning(older, log)?;
     for id in copies {
         check_same(alloc, from, folder, *id)?;
+    }
+    Ok(())
+}
+
+/// Sees that no master record is there where no log is: that would be one of another database.
+fn check_master<F: DatabaseFolder>(folder: &F, has_log: bool) -> Result<(), OpenFault>
+    ensures { OnOk result (has_log ≡ false
+        → IfSome (F.entries folder.now) (λ it. it (name_of saved.Master) ≡ absent)) }
+{
+    if !has_log && folder.has(MASTER).map_err(OpenFault::of_folder)? {
+        return Err(OpenFault::OtherDatabase(Place::Master));
     }
     Ok(())
 }

@@ -17,7 +17,7 @@ use saved_files::Folder;
 use std::alloc::{AllocError, Global};
 use std::fs::File;
 use std::io::{ErrorKind, Printer, Read};
-use std::os::unix::fs::FileExt;
+use std::os::unix::fs::{FileExt, MetadataExt};
 use std::path::{Path, PathBuf};
 use std::{fs, io};
 use system_files::{ClaimFault, Noted, Notes, Patient, SystemFolder, WrittenFile};
@@ -25,13 +25,20 @@ use system_files::{ClaimFault, Noted, Notes, Patient, SystemFolder, WrittenFile}
 /// Where the system gives random bytes.
 pub(crate) const RANDOM: &str = "/dev/urandom";
 
-/// The folder of a database that is one of the system.
+/// The number that the system has for a file or folder that is not what it was any more.
+const STALE: i32 = 116;
+
+/// The folder of a database that is one of the system. Its files are made and renamed by their
+/// names, and only as long as its own name leads to the folder that was claimed.
 #[derive(Drop)]
 pub(crate) struct SystemDatabase<'a> {
     folder: SystemFolder<'a>,
     rt: &'a HostRuntime,
     name: &'a str,
+    notes: &'a Notes,
     store_notes: &'a Notes,
+    /// The device and the number of the folder that was claimed.
+    claimed: Option<(u64, u64)>,
 }
 
 impl<'a> SystemDatabase<'a> {
@@ -46,8 +53,30 @@ impl<'a> SystemDatabase<'a> {
             folder: SystemFolder::new(rt, rt.alloc(), name, notes.0),
             rt,
             name,
+            notes: notes.0,
             store_notes: notes.1,
+            claimed: None,
         }
+    }
+
+    /// The device and the number of the folder that has its name now.
+    fn identity(&self) -> io::Result<(u64, u64)> {
+        let there = fs::metadata(self.rt, self.name)?;
+        Ok((there.dev(), there.ino()))
+    }
+
+    /// Sees that the name leads to the folder that was claimed: by a name that leads elsewhere now,
+    /// as a link that was changed, files of another database would be replaced.
+    fn stay(&self) -> io::Result<()> {
+        let stays = match (self.claimed, self.identity()) {
+            (Some(claimed), Ok(now)) if claimed != now => {
+                Err(io::Error::from_raw_os_error(STALE))
+            }
+            (_, Ok(_)) => Ok(()),
+            (_, Err(error)) => Err(error),
+        };
+        self.notes.note(&stays);
+        stays
     }
 
     /// Where the file of this name stands.
@@ -84,10 +113,13 @@ impl<'a> Folder for SystemDatabase<'a> {
     ghost holds = { λ _. None };
 
     fn claim(&mut self) -> io::Result<()> {
-        self.folder.claim()
+        self.folder.claim()?;
+        self.claimed = Some(self.identity()?);
+        Ok(())
     }
 
     fn make(&mut self, name: &str) -> io::Result<Noted<'a, File>> {
+        self.stay()?;
         self.folder.make(name)
     }
 
@@ -100,10 +132,12 @@ impl<'a> Folder for SystemDatabase<'a> {
     }
 
     fn rename(&mut self, from: &str, to: &str) -> io::Result<()> {
+        self.stay()?;
         self.folder.rename(from, to)
     }
 
     fn give_up(&mut self, name: &str, file: WrittenFile) -> io::Result<()> {
+        self.stay()?;
         self.folder.give_up(name, file)
     }
 
@@ -128,7 +162,14 @@ impl<'a> DatabaseFolder for SystemDatabase<'a> {
     ghost held = { λ _. None };
 
     fn claim_or_wait(&mut self) -> Result<(), ClaimFault> {
-        self.folder.claim_soon()
+        self.folder.claim_soon()?;
+        match self.identity() {
+            Ok(it) => {
+                self.claimed = Some(it);
+                Ok(())
+            }
+            Err(error) => Err(ClaimFault::Unopened(error)),
+        }
     }
 
     fn names(&self) -> io::Result<Vec<String>> {
@@ -169,6 +210,7 @@ impl<'a> DatabaseFolder for SystemDatabase<'a> {
     }
 
     fn remove(&mut self, name: &str) -> io::Result<()> {
+        self.stay()?;
         fs::remove_file(self.rt, self.place_of(name)?.as_path())
     }
 

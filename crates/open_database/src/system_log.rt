@@ -7,12 +7,17 @@ use std::io::ErrorKind;
 use std::path::PathBuf;
 use std::{fs, io};
 
-/// Opens the file of a log, if it is there, and locks it.
+/// Opens the file of a log, if it is there, and locks it. What is no regular file is not opened:
+/// a pipe would wait for one that writes to it.
 pub(crate) fn opened_log(
     files: &HostRuntime,
     path: &PathBuf,
     writes: bool,
 ) -> Result<Option<LogFile<File>>, LogFault> {
+    match fs::metadata(files, path.as_path()) {
+        Ok(there) if !there.is_file() => return Err(LogFault::NoFile),
+        Ok(_) | Err(_) => {}
+    }
     let opened = File::options()
         .read(true)
         .write(writes)

@@ -7,10 +7,10 @@ use Rattle.open_database.specs.DatabaseFolder.{BeginsIn}
 use Rattle.open_database.specs.declared.database_folder.Standing.{Standing}
 use Rattle.open_database.proofs.found_master.read_master.Goals as goal
 
-pub returns-in-Ok-File : goal.returns-in-Ok-File
-returns-in-Ok-File g c = λ told.
+pub returns-in-Ok-File-clause-found : goal.returns-in-Ok-File-clause-found
+returns-in-Ok-File-clause-found g c = λ told.
     let entries = g.F.Folder.entries c.args.folder.now in
     first_found SpellsMaster 65 entries (codes "master") c.read_first.new.bytes
     c.first_of.result.now c.in-Ok-File.len (spelled c.master_in.result) is_short_master (omega arith) c.first_of.ensures
     (subst (λ (it : Standing ℕ). IfSome entries (λ there. BeginsIn it c.read_first.new.bytes (there (codes "master")))) c.in-Ok-File.field-0-is
-    c.in-Ok-File.ensures) c.master_in.ensures
+    c.in-Ok-File.ensures) c.master_in.ensures.read

@@ -1,6 +1,7 @@
 use Rattle.std.proofs.Common.{refl}
 use Rattle.open_database.proofs.Anew.{begins_anew}
 use Rattle.open_database.proofs.Founds.{no_log_told}
+use Rattle.open_database.proofs.PutAside.{no_note, note_finished, still_without}
 use Rattle.open_database.proofs.Standings.{keeps_finished, keeps_more}
 use Rattle.open_database.proofs.open.begun.Goals as goal
 
@@ -17,3 +18,10 @@ returns-in_err-engine-clause-kept g c =
     let cleared = g.F.Folder.entries c.clear.new.folder in
     let last = g.F.Folder.entries c.begin.new.folder in
     keeps_more first cleared last (keeps_finished first cleared c.clear.ensures.kept) c.begin.ensures.kept
+
+pub returns-clause-gone : goal.returns-clause-gone
+returns-clause-gone g c =
+    let first = g.F.Folder.entries c.args.folder.now in
+    let cleared = g.F.Folder.entries c.clear.new.folder in
+    still_without cleared (g.F.Folder.entries c.begin.new.folder) c.in_ok-engine.ensures.note
+    (still_without first cleared (note_finished first cleared c.clear.ensures.kept) (no_note first c.in_ok-pages.ensures.files))

@@ -1,5 +1,8 @@
 use Rattle.open_database.proofs.LogThere.{handed_in, opened_in}
 use Rattle.open_database.specs.Opened.{len_of}
+use Rattle.open_database.specs.Refused.{IsRefusal}
+use Rattle.open_database.proofs.FolderChanges.{refused_in}
+use Rattle.open_database.proofs.PutAside.{puts_more, puts_none}
 use Rattle.open_database.proofs.Standings.{keeps_more, keeps_same}
 use Rattle.open_database.proofs.open.opened.Goals as goal
 
@@ -22,3 +25,16 @@ returns-clause-kept g c = λ told.
     let claimed = g.F.Folder.entries c.claim_or_wait.new.self in
     let last = g.F.Folder.entries c.open_from.new.folder in
     keeps_more first claimed last (keeps_same first claimed c.claim_or_wait.ensures.same) (c.open_from.ensures.kept told)
+
+pub returns-clause-stays : goal.returns-clause-stays
+returns-clause-stays g c =
+    let first = g.F.Folder.entries c.args.folder.now in
+    let claimed = g.F.Folder.entries c.claim_or_wait.new.self in
+    puts_more first claimed (g.F.Folder.entries c.open_from.new.folder)
+    (puts_none first claimed (keeps_same first claimed c.claim_or_wait.ensures.same)) c.open_from.ensures.stays
+
+pub returns-clause-refused : goal.returns-clause-refused
+returns-clause-refused g c =
+    refused_in c.open_from.result IsRefusal (g.F.Folder.entries c.args.folder.now)
+    (g.F.Folder.entries c.claim_or_wait.new.self) (g.F.Folder.entries c.open_from.new.folder)
+    c.claim_or_wait.ensures.same c.open_from.ensures.refused

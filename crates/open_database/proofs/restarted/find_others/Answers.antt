@@ -10,5 +10,5 @@ returns-clause-found g c =
     all_found entries there c.in_ok-note.note c.in_ok-manifest.manifest (spelled c.in_ok-master.master)
     c.in_ok-copies.copies.items c.requires c.in_ok-note.ensures
     (c.in_ok-manifest.ensures (tells_manifest entries there c.requires))
-    (c.in_ok-master.ensures (tells_master entries there c.requires)) c.in_ok-copies.ensures.found
+    (c.in_ok-master.ensures.found (tells_master entries there c.requires)) c.in_ok-copies.ensures.found
     (c.in_ok-copies.ensures.ids ∙ c.deref.ensures.value)

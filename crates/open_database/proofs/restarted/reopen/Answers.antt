@@ -1,9 +1,12 @@
-use Rattle.std.proofs.Common.{◌∙◌, ap, subst}
+use Rattle.std.proofs.Common.{◌∙◌, ◌↔◌, ap, IsTrue, subst}
 use Rattle.log_records.specs.Log.{Log}
-use Rattle.open_database.specs.Master.{IsUnnamed, TellsWrong, spelled}
+use Rattle.open_database.specs.Master.{IsOfRecords, IsUnnamed, spelled}
 use Rattle.open_database.specs.declared.restarted.Others.{Others}
 use Rattle.open_database.specs.Copies.{ids_unread}
 use Rattle.open_database.proofs.LogThere.{goes_on_handed}
+use Rattle.open_database.proofs.Founds.{tells_master}
+use Rattle.open_database.proofs.Masters.{wrong_in}
+use Rattle.open_database.proofs.PutAside.{note_beside_volume, puts_more, puts_none, still_without}
 use Rattle.open_database.proofs.Reopened.{goes_on_from}
 use Rattle.open_database.proofs.Standings.{keeps_more, keeps_volume}
 use Rattle.open_database.proofs.restarted.reopen.Goals as goal
@@ -28,6 +31,7 @@ returns-clause-handed g c =
     let opened = c.in_ok-opened.opened in
     let found = c.in_ok-remains.remains in
     let now = c.prepare.new.remains in
+    let was = c.in_ok-remains.ensures in
     goes_on_handed (g.F.Folder.entries c.args.folder.now) c.args.call.now.salvage c.args.log.len
     c.args.there.now.copies.items c.args.call.now.pages c.args.call.now.frames opened.first opened.engine.state
     opened.unread.items opened.point opened.is_master_wrong (returns-clause-goes_on g c)
@@ -35,10 +39,13 @@ returns-clause-handed g c =
     (subst (λ (o : Others). IsUnnamed found.log.front.log (spelled o.master) opened.point) c.prepare.ensures.others
     (subst (λ (log : Log). IsUnnamed log (spelled now.others.master) opened.point) c.prepare.ensures.log
     c.in_ok-opened.ensures.point))
-    (subst (λ (o : Others). TellsWrong found.log.front.log (spelled o.master) opened.is_master_wrong)
+    (wrong_in (g.F.Folder.entries c.args.folder.now) found.log.front.log found.others.master c.args.there.now.has_master
+    opened.is_master_wrong (tells_master (g.F.Folder.entries c.args.folder.now) c.args.there.now c.requires.inventory)
+    was.absent
+    (subst (λ (o : Others). IsTrue opened.is_master_wrong ↔ (¬ IsOfRecords found.log.front.log.records o.master))
     c.prepare.ensures.others
-    (subst (λ (log : Log). TellsWrong log (spelled now.others.master) opened.is_master_wrong) c.prepare.ensures.log
-    c.in_ok-opened.ensures.wrong))
+    (subst (λ (log : Log). IsTrue opened.is_master_wrong ↔ (¬ IsOfRecords log.records now.others.master))
+    c.prepare.ensures.log c.in_ok-opened.ensures.wrong)))
 
 pub returns-clause-kept : goal.returns-clause-kept
 returns-clause-kept g c = λ told.
@@ -46,3 +53,24 @@ returns-clause-kept g c = λ told.
     let prepared = g.F.Folder.entries c.prepare.new.folder in
     let last = g.F.Folder.entries c.go_on.new.folder in
     keeps_more first prepared last (c.prepare.ensures.files told) (keeps_volume prepared last c.go_on.ensures.others)
+
+pub returns-clause-stays : goal.returns-clause-stays
+returns-clause-stays g c =
+    let first = g.F.Folder.entries c.args.folder.now in
+    let prepared = g.F.Folder.entries c.prepare.new.folder in
+    let last = g.F.Folder.entries c.go_on.new.folder in
+    puts_more first prepared last c.prepare.ensures.stays
+    (puts_none prepared last (keeps_volume prepared last c.go_on.ensures.others))
+
+pub returns-clause-gone : goal.returns-clause-gone
+returns-clause-gone g c =
+    let prepared = g.F.Folder.entries c.prepare.new.folder in
+    let last = g.F.Folder.entries c.go_on.new.folder in
+    still_without prepared last (note_beside_volume prepared last c.go_on.ensures.others) c.in_ok-sums.ensures.gone
+
+pub returns-in_err-opened-clause-stays : goal.returns-in_err-opened-clause-stays
+returns-in_err-opened-clause-stays g c =
+    let prepared = g.F.Folder.entries c.prepare.new.folder in
+    let last = g.F.Folder.entries c.go_on.new.folder in
+    puts_more (g.F.Folder.entries c.args.folder.now) prepared last c.prepare.ensures.stays
+    (puts_none prepared last (keeps_volume prepared last c.go_on.ensures.others))

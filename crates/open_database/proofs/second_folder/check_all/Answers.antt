@@ -1,4 +1,4 @@
-use Rattle.std.proofs.Common.{ℕ, List, subst}
+use Rattle.std.proofs.Common.{◌∙◌, ℕ, List, subst}
 use Rattle.std.specs.Prelude.{IfSome}
 use Rattle.std.specs.List.{All}
 use Rattle.std.proofs.lemmas.List.{take_all}
@@ -14,6 +14,7 @@ returns g c =
     let second = g.F.Folder.entries c.args.folder.now in
     of_same_read (λ it. it.items) first c.args.log.now c.args.copies.now c.in_ok-older.older second
     c.in_ok-older.ensures c.in_ok-check_beginning.ensures.begins
+    (λ none. c.in_ok-check_master.ensures (c.is_some.ensures ∙ none))
     (subst (λ (ids : List ℕ). IfSome second (λ it.
     All (λ id. IsCopyOf first (name_of (saved.Copy id)) (it (name_of (saved.Copy id)))) ids))
     (take_all c.loop-id.id-index c.args.copies.now c.loop-id-test.false) c.loop-id.invariant)

@@ -6,7 +6,7 @@ use Rattle.saved_files.specs.declared.saved_name.SavedName.TheVariants as saved
 use Rattle.open_database.specs.Backups.{IsBackup, IsOfSame, PutsManifestLast}
 use Rattle.open_database.specs.DatabaseFolder.{HasBytes}
 use Rattle.open_database.proofs.FolderChanges.{on_ok}
-use Rattle.open_database.proofs.SecondFolders.{backup_cleared, cleared, of_same_cleared}
+use Rattle.open_database.proofs.SecondFolders.{backup_cleared, cleared, of_database_same, of_same_cleared}
 use Rattle.open_database.proofs.SecondFolders.{rest_cleared, rest_filled}
 use Rattle.open_database.proofs.second_folder.put_beside.Goals as goal
 
@@ -48,3 +48,9 @@ returns-clause-rest g c =
     c.claim_or_wait.ensures.same c.in_ok-check_all.ensures c.clear.ensures.kept
     (subst (λ (name : List ℕ). Changes (PutsManifestLast first c.args.copies.now name) mid new)
     c.in_ok-manifest.ensures.database c.fill.ensures.last) c.fill.ensures.older c.fill.ensures.others
+
+pub returns-clause-of_this : goal.returns-clause-of_this
+returns-clause-of_this g c =
+    on_ok c.fill.result (λ put. of_database_same c.args.database.0 (g.F.Folder.entries c.args.folder.now)
+    (g.F.Folder.entries c.claim_or_wait.new.self) c.claim_or_wait.ensures.same c.in_ok-manifest.ensures.of_this)
+    c.fill.ensures.put

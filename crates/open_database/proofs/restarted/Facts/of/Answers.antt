@@ -2,8 +2,8 @@ use Rattle.std.proofs.Common.{◌∙◌, ◌↔◌, inl, inr, IsTrue, List, not,
 use Rattle.fuzzy_ckpt.specs.LogCheckpoints.{IsLastPoint}
 use Rattle.log_records.specs.Log.{IsLog, Log}
 use Rattle.log_records.specs.declared.record.Record.{Record}
-use Rattle.open_database.specs.Master.{IsOfRecords, IsUnnamed, TellsWrong, spelled}
-use Rattle.open_database.proofs.Masters.{wrong_is}
+use Rattle.open_database.specs.Master.{IsOfRecords, IsUnnamed, spelled}
+use Rattle.open_database.proofs.Masters.{told_not}
 use Rattle.open_database.proofs.Reopened.{open_count}
 use Rattle.open_database.proofs.restarted.Facts.of.Goals as goal
 use Rattle.open_database.proofs.restarted.Facts.of.Goals.{then-names, else-names}
@@ -37,6 +37,6 @@ returns-clause-wrong c =
     let found = c.args.master.now in
     let told = c.is_of.result in
     let log = c.log-log.result.now in
-    subst (λ (it : Log). TellsWrong it (spelled found) (not told)) c.log-log.ensures.log
-    (wrong_is log found told
+    subst (λ (it : Log). IsTrue (not told) ↔ (¬ IsOfRecords it.records found)) c.log-log.ensures.log
+    (told_not told (IsOfRecords log.records found)
     (subst (λ (records : List Record). IsTrue told ↔ IsOfRecords records found) c.records.ensures.records c.is_of.ensures))
