@@ -15,7 +15,8 @@ complete -c imgcopy -n __fish_use_subcommand -a help -d 'Print the list of comma
 complete -c imgcopy -n __fish_use_subcommand -s h -l help -d 'The list of commands'
 complete -c imgcopy -n __fish_use_subcommand -s V -l version -d 'The version'
 complete -c imgcopy -n 'not __fish_use_subcommand' -s h -l help -d 'The help of the command'
-complete -c imgcopy -n '__fish_seen_subcommand_from help' -a 'redo run open backup restore audit verify show list renew help'
+complete -c imgcopy -n '__fish_seen_subcommand_from help' \
+    -a 'redo run open backup restore audit verify show list renew help'
 complete -c imgcopy -n '__fish_seen_subcommand_from redo restore' -s o -l output -r -F -d 'The file of the volume'
 complete -c imgcopy -n '__fish_seen_subcommand_from restore' -l copy -x -d 'The copy of a folder'
 complete -c imgcopy -n '__fish_seen_subcommand_from restore' -l log-out -r -F -d 'The file of the log'
