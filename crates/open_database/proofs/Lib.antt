@@ -2,6 +2,7 @@ mod Anew
 mod Chains
 mod CopyCalls
 mod CutLives
+mod DirtyPages
 mod FolderChanges
 mod Forgotten
 mod Founds
@@ -13,6 +14,7 @@ mod LogThere
 mod Masters
 mod Notes
 mod Numbers
+mod PageWrites
 mod PowerCuts
 mod PutAside
 mod Puts

@@ -14,6 +14,7 @@ pub mod MadeFiles
 pub mod Master
 pub mod MovedAside
 pub mod Opened
+pub mod PageWrites
 pub mod Pending
 pub mod PowerCuts
 pub mod Refused

@@ -4,6 +4,7 @@ use Rattle.engine_calls.specs.declared.event.Answer.TheVariants.{Writing}
 use Rattle.engine_calls.specs.declared.event.Event.TheVariants.{WriteBegin}
 use Rattle.engine_calls.specs.declared.refusal.Refusal.{Refusal}
 use Rattle.engine_calls.specs.declared.refusal.Refusal.TheVariants.{NotDirty}
+use Rattle.open_database.proofs.PageWrites.{none_to_begin, write_begun}
 use Rattle.open_database.proofs.Runs.{answered_well, refused_well}
 use Rattle.open_database.proofs.WordRuns.{refuses_call, writes_call}
 use Rattle.open_database.specs.Calls.{IsNoFault, IsOfClosing}
@@ -24,6 +25,16 @@ returns-in-Err-NotDirty-clause-written g c =
 pub returns-in-Err : goal.returns-in-Err
 returns-in-Err g c = record {
   written = tt;
+  begun = tt;
   refused = refuses_call IsOfClosing c.in-Err.why c.args.engine.now.state c.write_begin.new.self.state
       (WriteBegin c.args.page) tt tt c.in-Err.ensures.step;
 }
+
+pub returns-in-Ok-clause-begun : goal.returns-in-Ok-clause-begun
+returns-in-Ok-clause-begun g c =
+    write_begun c.args.page c.in-Ok.field-0 c.args.engine.now.state c.write_begin.new.self.state c.in-Ok.ensures.step
+
+pub returns-in-Err-NotDirty-clause-begun : goal.returns-in-Err-NotDirty-clause-begun
+returns-in-Err-NotDirty-clause-begun g c =
+    none_to_begin c.args.page c.in-Err-NotDirty.field-0 c.args.engine.now.state c.write_begin.new.self.state
+    c.in-Err-NotDirty.field-0-is c.in-Err-NotDirty.ensures.step

@@ -4,6 +4,7 @@ use Rattle.engine_calls.specs.declared.event.Answer.TheVariants.{Written}
 use Rattle.engine_calls.specs.declared.event.Event.TheVariants.{WriteEnd}
 use Rattle.engine_calls.specs.declared.refusal.Refusal.{Refusal}
 use Rattle.engine_calls.specs.declared.refusal.Refusal.TheVariants.{NoWrite}
+use Rattle.open_database.proofs.PageWrites.{none_to_end, write_ended}
 use Rattle.open_database.proofs.Runs.{answered_well, refused_well}
 use Rattle.open_database.proofs.WordRuns.{refuses_call, writes_call}
 use Rattle.open_database.specs.Calls.{IsNoFault, IsOfClosing}
@@ -25,6 +26,26 @@ pub returns-in-Err : goal.returns-in-Err
 returns-in-Err g c = record {
   few = tt;
   written = tt;
+  ended = tt;
+  within = tt;
   refused = refuses_call IsOfClosing c.in-Err.why c.args.engine.now.state c.write_end.new.self.state
       (WriteEnd c.args.page) tt tt c.in-Err.ensures.step;
 }
+
+pub returns-in-Ok-clause-ended : goal.returns-in-Ok-clause-ended
+returns-in-Ok-clause-ended g c =
+    (write_ended c.args.page c.in-Ok.field-0 c.args.engine.now.state c.write_end.new.self.state c.in-Ok.ensures.step).0
+
+pub returns-in-Ok-clause-within : goal.returns-in-Ok-clause-within
+returns-in-Ok-clause-within g c =
+    (write_ended c.args.page c.in-Ok.field-0 c.args.engine.now.state c.write_end.new.self.state c.in-Ok.ensures.step).1
+
+pub returns-in-Err-NoWrite-clause-ended : goal.returns-in-Err-NoWrite-clause-ended
+returns-in-Err-NoWrite-clause-ended g c =
+    (none_to_end c.args.page c.in-Err-NoWrite.field-0 c.args.engine.now.state c.write_end.new.self.state
+    c.in-Err-NoWrite.field-0-is c.in-Err-NoWrite.ensures.step).0
+
+pub returns-in-Err-NoWrite-clause-within : goal.returns-in-Err-NoWrite-clause-within
+returns-in-Err-NoWrite-clause-within g c =
+    (none_to_end c.args.page c.in-Err-NoWrite.field-0 c.args.engine.now.state c.write_end.new.self.state
+    c.in-Err-NoWrite.field-0-is c.in-Err-NoWrite.ensures.step).1

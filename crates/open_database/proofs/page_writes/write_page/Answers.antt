@@ -1,4 +1,5 @@
 use Rattle.std.proofs.Common.{◌+◌, arith, refl}
+use Rattle.open_database.proofs.PageWrites.{cleans}
 use Rattle.open_database.proofs.WordRuns.{handed_on, written_refused, written_then}
 use Rattle.open_database.specs.Calls.{IsOfClosing}
 use Rattle.open_database.specs.Words.{AreRefused, Runs}
@@ -31,3 +32,9 @@ returns-clause-written g c =
     (written_then 0 c.in_ok-newer.newer c.in_ok-newer.newer c.end_write.new.engine.state
     c.begin_write.new.engine.state c.end_write-2.new.engine.state (omega arith) c.in_ok-begin_write.ensures.written
     c.in_ok-newer.ensures.written)
+
+pub returns-clause-cleaned : goal.returns-clause-cleaned
+returns-clause-cleaned g c =
+    cleans c.args.page c.args.engine.now.state c.end_write.new.engine.state c.begin_write.new.engine.state
+    c.end_write-2.new.engine.state c.log_end-end.ensures.fit c.in_ok-older.ensures.within c.in_ok-older.ensures.ended
+    c.in_ok-begin_write.ensures.begun c.in_ok-newer.ensures.ended
