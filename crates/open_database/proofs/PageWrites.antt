@@ -249,8 +249,8 @@ pub clean_below : (cursor page next : ℕ) (old new : EngineState) → next ≡ 
 clean_below cursor page next old new is below first cleans p lt = elim (cases_eq p page) [
   | inl same ↦ ap (rec_lsn_of new) same ∙ cleans.clean
   | inr other ↦ cleans.others p other ∙ elim (cases_lt p cursor) [
-      | inl low ↦ below p low
-      | inr high ↦ first.before p high (omega arith)
+    | inl low ↦ below p low
+    | inr high ↦ first.before p high (omega arith)
   ]
 ]
 
