@@ -7,6 +7,7 @@ use Rattle.saved_files.specs.PutFault.{bytes_by}
 use Rattle.std.specs.Io.KnownBytes.{Appends}
 use Rattle.open_database.specs.Calls.{IsNoFault, IsOfClosing, RunsBy}
 use Rattle.open_database.specs.MadeFiles.{HasFile}
+use Rattle.open_database.specs.PageWrites.{HasNoDirtyPage}
 use Rattle.open_database.specs.declared.closed_note.ClosedNote.{ClosedNote}
 
 -- where the log ended, in decimal digits, and a line feed
@@ -32,9 +33,10 @@ abbrev pub KeepsNote : Option Entries → Option Entries → Type 0
 KeepsNote = Changes (λ old new. new (codes "closed") ≡ old (codes "closed"))
 
 -- a database was closed well: the log was forced and pages were written, by calls in which no file
--- failed, and all of the log is forced
+-- failed, all of the log is forced, and no page is dirty
 abbrev pub ClosesWell : EngineState → EngineState → Type 0
-ClosesWell old new = RunsBy IsOfClosing IsNoFault old new × (new.forced_end ≡ end new)
+ClosesWell old new =
+    RunsBy IsOfClosing IsNoFault old new × (new.forced_end ≡ end new) × HasNoDirtyPage new
 
 -- where a database was closed, it kept its folder as it was, or it was closed well
 abbrev pub IsClosed : EngineState → EngineState → Type 0 → Type 0

@@ -6,6 +6,7 @@ ghost use Rattle.saved_files.specs.PutFault.{bytes_by};
 ghost use Rattle.open_database.specs.Calls.{IsAnyReply, IsNoFault, IsOfClosing, RunsBy};
 ghost use Rattle.open_database.specs.Closed.{ClosesWell, IsClosed, IsNoted, note_of};
 ghost use Rattle.open_database.specs.MadeFiles.{HasFile};
+ghost use Rattle.open_database.specs.PageWrites.{HasNoDirtyPage};
 
 use crate::closed_note::ClosedNote;
 use crate::database_folder::DatabaseFolder;
@@ -59,6 +60,7 @@ impl<F: DatabaseFolder, S: PageStore, D: LogDevice + TellsWhy> Session<'_, F, S,
         ensures ran { RunsBy IsOfClosing IsAnyReply self.old.engine.state self.new.engine.state }
         ensures well { OnOk result
             (RunsBy IsOfClosing IsNoFault self.old.engine.state self.new.engine.state) }
+        ensures clean { OnOk result (HasNoDirtyPage self.new.engine.state) }
         ensures folder { self.new.folder ≡ self.old.folder }
         ensures failed { self.new.has_failed ≡ self.old.has_failed }
     {
