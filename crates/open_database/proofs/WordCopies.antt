@@ -21,7 +21,7 @@ use Rattle.open_database.proofs.Runs.{run_append}
 use Rattle.open_database.proofs.WordRuns.{runs_both, runs_call, runs_nothing, runs_weaker}
 use Rattle.open_database.specs.Backups.{CopiesBehindPoint, IsCopied, IsToldWell, TellsCopy}
 use Rattle.open_database.specs.Calls.{IsAnyReply, Makes, RunsBy, SaysOf, copy_call}
-use Rattle.open_database.specs.MadeFiles.{CopyStandsOnPlaced, IsCopyGiven, SomeCopyWaits, TellsNoCopy}
+use Rattle.open_database.specs.MadeFiles.{CopyStandsOnPlaced, IsCleanFor, IsCopyGiven, SomeCopyWaits, TellsNoCopy}
 use Rattle.open_database.specs.MadeFiles.{WaitsUnlessCopied}
 use Rattle.open_database.specs.Pending.{Waits, WaitsUnlessPlaced}
 use Rattle.open_database.specs.Said.{IsAnswer, IsAnswerOr, IsReply}
@@ -323,15 +323,16 @@ point_told (Unplaced fault) is = absurd is
 
 pub copies_behind_point : (parent copied : Option ℕ) (call : Said) (said : WordSaid) (old mid new : EngineState)
     → IsToldWell (Call call) → IfSome copied (λ id. IsCopied id said)
-    → MakesWord Checkpoint old (one_line (Call call)) mid → MakesWord (Copy parent) mid (one_line said) new
-    → IfSome copied (λ id. CopiesBehindPoint parent id old new)
-copies_behind_point parent None call said old mid new well which first made = tt
-copies_behind_point parent (Some id) call said old mid new well which first made =
+    → MakesWord Checkpoint old (one_line (Call call)) mid → IsCleanFor Checkpoint old (one_line (Call call)) mid
+    → MakesWord (Copy parent) mid (one_line said) new → IfSome copied (λ id. CopiesBehindPoint parent id old new)
+copies_behind_point parent None call said old mid new well which first clean made = tt
+copies_behind_point parent (Some id) call said old mid new well which first clean made =
     let point = point_told call well in
     record {
       between = mid;
       point = point.0;
       checkpoint = subst (λ (it : Said). MakesWord Checkpoint old (one_line (Call it)) mid) point.1 first;
+      clean = subst (λ (it : Said). IsCleanFor Checkpoint old (one_line (Call it)) mid) point.1 clean;
       said = said;
       copied = which;
       copy = made;

@@ -19,8 +19,9 @@ use Rattle.open_database.proofs.Runs.{run_append}
 use Rattle.open_database.specs.Calls.{IsAnyReply, IsNoFault, IsOfClosing, RunsBy}
 use Rattle.open_database.specs.MadeFiles.{EndsCheckpoint}
 use Rattle.open_database.specs.Session.{LeavesLine, LeavesWord, TakesWord}
-use Rattle.open_database.specs.Words.{AreRefused, GatherSteps, Gathers, GathersAll, IsOfCheckpoint, IsStatus, MakesWord}
-use Rattle.open_database.specs.Words.{Runs}
+use Rattle.open_database.specs.PageWrites.{HasNoDirtyPage}
+use Rattle.open_database.specs.Words.{AreRefused, GatherSteps, Gathers, GathersAll, GathersClean, IsOfCheckpoint}
+use Rattle.open_database.specs.Words.{IsStatus, MakesWord, Runs}
 use Rattle.open_database.specs.Words.{SaysOfWord, Told, WritesPages, begins, ended, flushed, goes_on, lines, no_step}
 use Rattle.open_database.specs.Words.{not_flushed, not_gathered, one_line, one_step, pages_first, telling, writes_ended_by}
 use Rattle.open_database.specs.declared.help.TheConstants.{HELP}
@@ -270,6 +271,16 @@ written_gathered count old mid new =
     (λ events more replies given writes gathers. pages_first events more replies given count writes gathers)
     old mid new
 
+pub gathered_clean : (count : ℕ) (old mid new : EngineState) → Runs (WritesPages count) old mid → HasNoDirtyPage mid
+    → Runs Gathers mid new → GathersClean old new
+gathered_clean count old mid new writes clean gathers = record {
+  between = mid;
+  count = count;
+  written = writes;
+  clean = clean;
+  gathered = gathers;
+}
+
 pub written_not_gathered : (count : ℕ) (why : Refusal) (old mid new : EngineState) → Runs (WritesPages count) old mid
     → Runs (AreRefused IsOfCheckpoint why) mid new → Runs (AreRefused IsOfCheckpoint why) old new
 written_not_gathered count why old mid new =
@@ -356,6 +367,7 @@ pub help_taken : {T : Type 0} (r : Result T ServeFault) (s : EngineState) (text 
 help_taken (Ok x) s text entries is_stored before after is written = record {
   told = lines text;
   made = runs_nothing (λ events replies. SaysOfWord Help events replies (lines text)) s (telling Help text is);
+  clean = tt;
   in_place = tt;
   stored = tt;
   written = written;
@@ -369,6 +381,7 @@ help_left (Ok x) s text entries is_stored before after is left = tt
 help_left (Err fault) s text entries is_stored before after is left = record {
   told = lines text;
   made = runs_nothing (λ events replies. SaysOfWord Help events replies (lines text)) s (telling Help text is);
+  clean = tt;
   in_place = tt;
   stored = tt;
   left = left;
@@ -393,6 +406,7 @@ pub status_taken : {T : Type 0} (r : Result T ServeFault) (s : EngineState) (ent
 status_taken (Ok x) s entries is_stored before after (text, is, written) = record {
   told = lines text;
   made = runs_nothing (λ events replies. SaysOfWord Status events replies (lines text)) s (telling Status text is);
+  clean = tt;
   in_place = tt;
   stored = tt;
   written = written;
@@ -407,6 +421,7 @@ status_left (Ok x) s entries is_stored before after left = tt
 status_left (Err fault) s entries is_stored before after (text, is, left) = record {
   told = lines text;
   made = runs_nothing (λ events replies. SaysOfWord Status events replies (lines text)) s (telling Status text is);
+  clean = tt;
   in_place = tt;
   stored = tt;
   left = left;

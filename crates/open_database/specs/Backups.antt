@@ -24,7 +24,7 @@ use Rattle.open_database.specs.Closed.{ClosesWell}
 use Rattle.open_database.specs.DatabaseFolder.{HasBytes}
 use Rattle.open_database.specs.Found.{IsFoundIn, SpellsManifest}
 use Rattle.open_database.specs.Kept.{Names}
-use Rattle.open_database.specs.MadeFiles.{HasFile}
+use Rattle.open_database.specs.MadeFiles.{HasFile, IsCleanFor}
 use Rattle.open_database.specs.Opened.{Begins}
 use Rattle.open_database.specs.Said.{IsAnswer}
 use Rattle.open_database.specs.Standing.{IsUnfinished}
@@ -50,6 +50,7 @@ pub record CopiesBehindPoint (parent : Option ℕ) (id : ℕ) (old new : EngineS
   pub between : EngineState
   pub point : Answer
   pub checkpoint : MakesWord Checkpoint old (one_line (Call (Reply (Ok point)))) between
+  pub clean : IsCleanFor Checkpoint old (one_line (Call (Reply (Ok point)))) between
   pub said : WordSaid
   pub copied : IsCopied id said
   pub copy : MakesWord (Copy parent) between (one_line said) new

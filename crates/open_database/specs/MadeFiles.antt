@@ -20,16 +20,18 @@ use Rattle.saved_files.specs.Saved.{name_of}
 use Rattle.saved_files.specs.declared.saved_name.SavedName.TheVariants as saved
 use Rattle.std.specs.Prelude.{Result}
 use Rattle.open_database.specs.Calls.{IsAnyReply, MakesOne, RunsBy}
+use Rattle.open_database.specs.PageWrites.{HasNoDirtyPage}
 use Rattle.open_database.specs.Pending.{PointWaits, Waits, WaitsUnlessPlaced}
 use Rattle.open_database.specs.Said.{IsAnswer, IsAnswerOr, IsSaidOf}
 use Rattle.open_database.specs.WordCopies.{BeginsAndFills, EndsBySeal, IsPointNew}
-use Rattle.open_database.specs.Words.{IsOfCheckpoint, IsSaidOnce, MakesWord, Runs, Told, one_line}
+use Rattle.open_database.specs.Words.{GathersClean, IsOfCheckpoint, IsSaidOnce, MakesWord, Runs}
+use Rattle.open_database.specs.Words.{Told, one_line}
 use Rattle.open_database.specs.declared.pending.Stage.{Stage}
 use Rattle.open_database.specs.declared.said.Said.{Said}
 use Rattle.open_database.specs.declared.said.Said.TheVariants.{Reply, Unplaced}
 use Rattle.open_database.specs.declared.unplaced_point.UnplacedPoint.{UnplacedPoint}
 use Rattle.open_database.specs.declared.word.Word.{Word}
-use Rattle.open_database.specs.declared.word.Word.TheVariants.{Checkpoint, Copy}
+use Rattle.open_database.specs.declared.word.Word.TheVariants.{Checkpoint, Copy, Flush}
 use Rattle.open_database.specs.declared.word_said.WordSaid.{WordSaid}
 use Rattle.open_database.specs.declared.word_said.WordSaid.TheVariants as word_said
 
@@ -43,6 +45,12 @@ StepsAndSays old event again said new =
 abbrev pub EndsCheckpoint : EngineState → Said → EngineState → Type 0
 EndsCheckpoint old said new =
     (reply : Result Answer Refusal) × Step old CkptEnd reply new × IsSaidOnce reply said
+
+-- pages were written until none was dirty, and then a checkpoint was gathered and ended, of which
+-- that is said
+abbrev pub EndsClean : EngineState → Said → EngineState → Type 0
+EndsClean old said new =
+    (gathered : EngineState) × GathersClean old gathered × EndsCheckpoint gathered said new
 
 -- a checkpoint that is answered is the one that the engine has ended now, or the one that waited
 abbrev pub IsEndedOrWaited : EngineState → Option UnplacedPoint → Said → EngineState → Type 0
@@ -104,6 +112,14 @@ abbrev pub HasStored : Word → Told → Type 0 → Type 0
 HasStored Checkpoint (one_line (word_said.Call said)) is_stored = IsStoredFor CkptEnd said is_stored
 HasStored (Copy parent) (one_line said) is_stored = IsCopyStored said is_stored
 HasStored word told is_stored = Unit {0}
+
+-- where a flush is answered, no page is dirty; where a checkpoint is, none was when it was begun, or
+-- gone on with
+abbrev pub IsCleanFor : Word → EngineState → Told → EngineState → Type 0
+IsCleanFor Flush old (one_line (word_said.Flushed count)) new = HasNoDirtyPage new
+IsCleanFor Checkpoint old (one_line (word_said.Call said)) new =
+    IfPoint said (λ _ _. EndsClean old said new)
+IsCleanFor word old told new = Unit {0}
 
 -- a copy that was made complete waits for its file, where that is not in place
 abbrev pub WaitsFor : Event → Said → List Stage → Type 0
@@ -185,6 +201,7 @@ pub data IsBehindPoint (parent : Option ℕ) (point : Option UnplacedPoint) (old
       → IsBehindPoint parent point old said new
   behind_another : (mid : EngineState) (call : Said) → IsAnswer call
       → MakesWord Checkpoint old (one_line (word_said.Call call)) mid
+      → IsCleanFor Checkpoint old (one_line (word_said.Call call)) mid
       → Runs (λ events replies. BeginsAndFills parent events replies said) mid new
       → IsBehindPoint parent point old said new
   not_behind : (call : Said) → ¬ IsAnswer call → said ≡ word_said.Call call

@@ -16,6 +16,7 @@ use Rattle.engine_rules.specs.EngineState.{EngineState}
 use Rattle.engine_rules.specs.Run.{Run}
 use Rattle.event_script.specs.Words.{number_of}
 use Rattle.open_database.specs.Calls.{IsNoFault, IsOfClosing}
+use Rattle.open_database.specs.PageWrites.{HasNoDirtyPage}
 use Rattle.open_database.specs.Said.{IsAnswer, IsAnswerOr, line_of_said}
 use Rattle.open_database.specs.WordCopies.{BeginsAndFills}
 use Rattle.open_database.specs.declared.help.TheConstants.{HELP}
@@ -146,6 +147,15 @@ pub data GathersAll : List Event → List (Result Answer Refusal) → Type 0 whe
   pages_first : (writes steps : List Event) (written given : List (Result Answer Refusal))
       (count : ℕ) → WritesPages count writes written → Gathers steps given
       → GathersAll (writes ++ steps) (written ++ given)
+
+-- pages were written until none was dirty, and then a checkpoint was begun, or gone on with, and
+-- gathered
+pub record GathersClean (old new : EngineState) : Type 0 where
+  pub between : EngineState
+  pub count : ℕ
+  pub written : Runs (WritesPages count) old between
+  pub clean : HasNoDirtyPage between
+  pub gathered : Runs Gathers between new
 
 -- what is said of the reply to a call that makes a file: that reply, or that the file is not in
 -- place

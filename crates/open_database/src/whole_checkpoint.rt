@@ -3,12 +3,13 @@
 ghost use Rattle.std.specs.Prelude.{◌≡◌, IfErr, OnOk, true};
 ghost use Rattle.saved_files.specs.Saved.{name_of};
 ghost use Rattle.saved_files.specs.declared.saved_name.SavedName.TheVariants as saved;
-ghost use Rattle.open_database.specs.MadeFiles.{EndsCheckpoint, IfPoint, IsInPlace, IsStoredFor};
-ghost use Rattle.open_database.specs.MadeFiles.{is_master};
+ghost use Rattle.open_database.specs.MadeFiles.{EndsCheckpoint, IfPoint, IsCleanFor, IsInPlace};
+ghost use Rattle.open_database.specs.MadeFiles.{IsStoredFor, is_master};
 ghost use Rattle.open_database.specs.MovedAside.{PutsAside};
 ghost use Rattle.open_database.specs.Pending.{PointWaitsUnlessPlaced};
 ghost use Rattle.open_database.specs.Words.{AreRefused, GatherSteps, Gathers, GathersAll};
-ghost use Rattle.open_database.specs.Words.{IsOfCheckpoint, MakesWord, Runs, one_line};
+ghost use Rattle.open_database.specs.Words.{GathersClean, IsOfCheckpoint, MakesWord, Runs};
+ghost use Rattle.open_database.specs.Words.{one_line};
 ghost use Rattle.open_database.specs.declared.word.Word.TheVariants as word;
 ghost use Rattle.open_database.specs.declared.word_said.WordSaid.TheVariants as word_said;
 ghost use Rattle.engine_calls.specs.declared.event.Event.TheVariants as event;
@@ -28,6 +29,9 @@ impl<F: DatabaseFolder, S: PageStore, D: LogDevice + TellsWhy> Session<'_, F, S,
     pub(crate) fn checkpoint(&mut self) -> Said
         requires { F.is_claimed self.old.folder }
         ensures made { MakesWord word.Checkpoint self.old.engine.state
+            (one_line (word_said.Call result)) self.new.engine.state }
+        // Where it is answered, no page was dirty when it was begun, or gone on with.
+        ensures clean { IsCleanFor word.Checkpoint self.old.engine.state
             (one_line (word_said.Call result)) self.new.engine.state }
         ensures in_place { IsInPlace event.CkptEnd result self.new.engine.state
             (F.entries self.new.folder) }
@@ -71,6 +75,7 @@ impl<F: DatabaseFolder, S: PageStore, D: LogDevice + TellsWhy> Session<'_, F, S,
 /// Writes each dirty page, begins a checkpoint, and gathers all that it has to.
 fn gathered<S: PageStore, D: LogDevice>(engine: &mut Engine<S, D>) -> Result<(), Refusal>
     ensures gathered { OnOk result (Runs GathersAll engine.old.state engine.new.state) }
+    ensures clean { OnOk result (GathersClean engine.old.state engine.new.state) }
     ensures refused { IfErr result (λ why.
         Runs (AreRefused IsOfCheckpoint why) engine.old.state engine.new.state) }
 {

@@ -2,6 +2,7 @@
 
 ghost use Rattle.std.specs.Prelude.{◌≡◌, IfErr, OnOk};
 ghost use Rattle.std.specs.Io.KnownBytes.{Appends};
+ghost use Rattle.open_database.specs.MadeFiles.{IsCleanFor};
 ghost use Rattle.open_database.specs.Session.{LeavesLine, LeavesWord, TakesWord};
 ghost use Rattle.open_database.specs.Words.{MakesWord, one_line, text_of};
 ghost use Rattle.open_database.specs.declared.word.Word.TheVariants as word;
@@ -58,6 +59,9 @@ impl<F: DatabaseFolder, S: PageStore, D: LogDevice + TellsWhy> Session<'_, F, S,
     /// Writes each dirty page.
     fn flush(&mut self) -> WordSaid
         ensures made { MakesWord word.Flush self.old.engine.state (one_line result)
+            self.new.engine.state }
+        // Where it is answered, no page is dirty.
+        ensures clean { IsCleanFor word.Flush self.old.engine.state (one_line result)
             self.new.engine.state }
         ensures folder { self.new.folder ≡ self.old.folder }
     {

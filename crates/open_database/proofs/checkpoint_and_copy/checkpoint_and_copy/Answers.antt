@@ -12,7 +12,7 @@ returns-clause-made g c =
     let well : IsToldWell (Call c.checkpoint-point.result) = search rules in
     copies_behind_point c.args.on c.copied.result c.checkpoint-point.result c.copy-copied.result
     c.args.session.now.engine.state c.checkpoint-point.new.self.engine.state c.is_told-2.new.session.engine.state well
-    c.copied.ensures c.checkpoint-point.ensures.made
+    c.copied.ensures c.checkpoint-point.ensures.made c.checkpoint-point.ensures.clean
     (subst (λ engine. MakesWord (Copy c.args.on) c.checkpoint-point.new.self.engine.state
     (one_line c.copy-copied.result) engine.state) (sym c.is_told-2.ensures.engine)
     (subst (λ engine. MakesWord (Copy c.args.on) engine.state (one_line c.copy-copied.result)

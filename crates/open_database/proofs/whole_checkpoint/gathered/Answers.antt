@@ -1,5 +1,5 @@
 use Rattle.std.proofs.lemmas.Result.{on_ok_weaker}
-use Rattle.open_database.proofs.WordRuns.{err_weaker, written_gathered, written_not_gathered}
+use Rattle.open_database.proofs.WordRuns.{err_weaker, gathered_clean, written_gathered, written_not_gathered}
 use Rattle.open_database.specs.Words.{AreRefused, IsOfCheckpoint, Runs}
 use Rattle.open_database.proofs.whole_checkpoint.gathered.Goals as goal
 
@@ -8,6 +8,13 @@ returns-in-Ok-clause-gathered g c =
     on_ok_weaker c.begin_gathered.result
     (written_gathered c.in-Ok.field-0 c.args.engine.now.state c.write_pages.new.engine.state
     c.begin_gathered.new.engine.state c.in-Ok.ensures.written)
+    c.begin_gathered.ensures.gathered
+
+pub returns-in-Ok-clause-clean : goal.returns-in-Ok-clause-clean
+returns-in-Ok-clause-clean g c =
+    on_ok_weaker c.begin_gathered.result
+    (gathered_clean c.in-Ok.field-0 c.args.engine.now.state c.write_pages.new.engine.state
+    c.begin_gathered.new.engine.state c.in-Ok.ensures.written c.in-Ok.ensures.clean)
     c.begin_gathered.ensures.gathered
 
 pub returns-in-Ok-clause-refused : goal.returns-in-Ok-clause-refused

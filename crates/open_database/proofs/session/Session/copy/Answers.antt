@@ -28,7 +28,7 @@ returns-then-is_point_new-clause-behind g c =
 pub returns-in-Reply-Ok-clause-behind : goal.returns-in-Reply-Ok-clause-behind
 returns-in-Reply-Ok-clause-behind g c =
     behind_another c.checkpoint.new.self.engine.state c.checkpoint.result (search rules) c.checkpoint.ensures.made
-    c.copy_behind-in-Reply-Ok.ensures.made
+    c.checkpoint.ensures.clean c.copy_behind-in-Reply-Ok.ensures.made
 
 pub returns-in-Reply-Err-clause-behind : goal.returns-in-Reply-Err-clause-behind
 returns-in-Reply-Err-clause-behind g c =
