@@ -19,7 +19,7 @@ use Rattle.saved_files.specs.Folder.{Entries}
 use Rattle.open_database.specs.Calls.{IsAnyReply, IsOfClosing, Makes, RunsBy, SaysOf}
 use Rattle.open_database.specs.Closed.{ClosesWell}
 use Rattle.open_database.specs.Lines.{AreAllLines, AreFirstLines, Line, too_long, unended, whole}
-use Rattle.open_database.specs.MadeFiles.{HasPlaced, HasStored, IsCleanFor, IsInPlace}
+use Rattle.open_database.specs.MadeFiles.{HasPlaced, HasStored, IsInPlace}
 use Rattle.open_database.specs.MadeFiles.{IsStoredFor}
 use Rattle.open_database.specs.Said.{said_line}
 use Rattle.open_database.specs.Words.{BeginsAsWord, IsNoWord, MakesWord, SaysOfWord, Spells, Told}
@@ -144,7 +144,6 @@ pub record TakesWord (word : Word) (old new : EngineState) (entries : Option Ent
     (is_stored : Type 0) (before after : Option (List ℕ)) : Type 0 where
   pub told : Told
   pub made : MakesWord word old told new
-  pub clean : IsCleanFor word old told new
   pub in_place : HasPlaced word told new entries
   pub stored : HasStored word told is_stored
   pub written : Appends before after (text_of told)
@@ -154,7 +153,6 @@ pub record LeavesWord (word : Word) (old new : EngineState) (entries : Option En
     (is_stored : Type 0) (before after : Option (List ℕ)) (fault : ServeFault) : Type 0 where
   pub told : Told
   pub made : MakesWord word old told new
-  pub clean : IsCleanFor word old told new
   pub in_place : HasPlaced word told new entries
   pub stored : HasStored word told is_stored
   pub left : LeavesLine before after (text_of told) fault
