@@ -307,16 +307,6 @@ def lines_of_new(checker, case, new):
                                            else "no name has its new file")]
 
 
-def check_names(checker):
-    """The log gets the name that the volume's unfinished file would have, or the other way round."""
-    for log, volume in ((f"v{UNFINISHED}1", "v"), ("l", f"l{UNFINISHED}1")):
-        shutil.rmtree(checker.top, ignore_errors=True)
-        checker.top.mkdir()
-        files = [checker.day / name for name in SAVED]
-        checker.plain("restore", "-o", checker.top / volume, "--log-out", checker.top / log, *files)
-        see(f"restore -o {volume} --log-out {log}", checker.files(), {log: checker.new["l"], volume: checker.new["v"]})
-
-
 # A second folder, and a new one
 
 def noted(checker, *words):
@@ -407,7 +397,6 @@ def main(arguments):
             for case in checker.cases:
                 events, names = check_calls(checker, case)
                 check_failures(checker, case, events, names)
-            check_names(checker)
             check_backup(checker)
             check_renewal(checker)
     except (Failure, OSError, subprocess.SubprocessError) as failure:

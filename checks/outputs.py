@@ -6,8 +6,9 @@ No output takes the place of a log, a master record, a copy or an input of its c
 `restore -o`, `restore --log-out` and `run --save` are refused there, name the file and what it is, and change nothing, be it
 there before the command or put there meanwhile. With `--force` they replace it, but no file that another one has locked.
 Where another one has the folder, as an open database has, they are refused; many of them in one folder do not stand in each
-other's way. What a killed one left is removed by the next one and told, and what a living one writes is not. Then audits
-read pipes, and names with escape sequences are told.
+other's way. What a killed one left is told by the next one, and stays; what a living one writes is not told, nor is an
+input of such a name. No output gets the name of an unfinished file. Then audits read pipes, and names with escape sequences
+are told.
 """
 
 import fcntl
@@ -323,8 +324,14 @@ def check_at_once(writer):
 
 # What killed commands leave
 
-def left(name, removed=True):
-    return f"imgcopy: out/{name}: left by a command that was cut off; it {'is removed' if removed else 'may be deleted'}\n"
+def left(name):
+    return f"imgcopy: {name}: left by a command that was cut off; it may be deleted\n"
+
+
+def see_left(writer, what, done, names, before):
+    """It went well, told these names in any order, and removed nothing."""
+    done.stderr = "".join(sorted(done.stderr.decode().splitlines(keepends=True)))
+    writer.see(what, done, 0, "".join(sorted(map(left, names))), before)
 
 
 def check_leftovers(writer):
@@ -335,15 +342,12 @@ def check_leftovers(writer):
             (out / other).write_bytes(b"left")
         (out / "v.unfinished-5").symlink_to("nothing")
         (out / "v.unfinished-6").mkdir()
-        before = content(writer.folder)
         for number in (1, 3, 12):
             (out / f"v.unfinished-{number}").write_bytes(b"left")
+        before = content(writer.folder)
         with locked(out / "v.unfinished-3"):
-            done = writer.write(name, "out/v")
-            done.stderr = "".join(sorted(done.stderr.decode().splitlines(keepends=True)))
-            told = "".join(sorted([left("v.unfinished-1"), left("v.unfinished-12")]))
-            writer.see(f"{name} beside what is left", done, 0, told,
-                       before | {"out/v": made, "out/v.unfinished-3": b"left"})
+            see_left(writer, f"{name} beside what is left", writer.write(name, "out/v"),
+                     ("out/v.unfinished-1", "out/v.unfinished-12"), before | {"out/v": made})
         if not (out / "v.unfinished-5").is_symlink():
             raise Failure(f"{name}: a link is removed")
     writer.fill()
@@ -358,10 +362,53 @@ def check_leftovers(writer):
     child.send_signal(signal.SIGKILL)
     child.communicate(timeout=MOST_SECONDS)
     done = writer.run("run", "--pages", 3, "--save", "out", "--force", data=writer.script)
-    writer.see("run --save behind one that was killed", done, 0, left("v.unfinished-1", removed=False))
-    writer.see("redo -o behind one that was killed", writer.write("redo -o", "out/v"), 0, left("v.unfinished-1"))
-    if sorted(content(writer.folder / "out")) != sorted([*FILES, "manifest", "v"]):
+    writer.see("run --save behind one that was killed", done, 0, left("out/v.unfinished-1"))
+    writer.see("redo -o behind one that was killed", writer.write("redo -o", "out/v"), 0, left("out/v.unfinished-1"))
+    if sorted(content(writer.folder / "out")) != sorted([*FILES, "manifest", "v", "v.unfinished-1"]):
         raise Failure(f"what is left: {sorted(content(writer.folder / 'out'))}")
+
+
+def check_left_inputs(writer):
+    """Inputs have names of unfinished files of the output: they stay, and are not told."""
+    restored = writer.commands["restore -o"][3]
+    for option, made in (("-o", restored), ("--log-out", writer.commands["restore --log-out"][3])):
+        writer.fill()
+        for name, number in (("log", 1), ("copy-1", 2), ("master", 4)):
+            (writer.folder / name).rename(writer.folder / f"db.unfinished-{number}")
+        (writer.folder / "away").mkdir()
+        (writer.folder / "db.unfinished-5").write_bytes(b"left")
+        (writer.folder / "db.unfinished-1").rename(writer.folder / "away" / "log")
+        (writer.folder / "db.unfinished-1").hardlink_to(writer.folder / "away" / "log")
+        before = content(writer.folder)
+        done = writer.run("restore", "--no-manifest", option, "db", "away/log", "db.unfinished-4", "db.unfinished-2", "copy-2", "copy-3")
+        see_left(writer, f"restore {option} beside its inputs", done, ("./db.unfinished-5",), before | {"db": made})
+    for force in ([], ["--force"]):
+        writer.fill()
+        (writer.folder / "db.unfinished-1").write_bytes(writer.log)
+        before = content(writer.folder)
+        with open(writer.folder / "db.unfinished-1", "rb") as source:
+            done = subprocess.run([writer.program, "redo", "-o", "db", *force], stdin=source, capture_output=True,
+                                  cwd=writer.folder, timeout=MOST_SECONDS)
+        see_left(writer, f"redo {force} beside its input", done, (), before | {"db": writer.commands["redo -o"][3]})
+
+
+def check_unfinished_names(writer):
+    """Such a name is refused, with --force, too, and other ones that look like it are not."""
+    told = "E29 WriteFault 0\nimgcopy: {}: this is the name of an unfinished file: name another one\n"
+    for name in writer.commands:
+        writer.fill()
+        before = content(writer.folder)
+        for options in ([], ["--force"]):
+            for path in ("out/v.unfinished-1", "v.unfinished-007", ".unfinished-1", "./log.unfinished-1.unfinished-12"):
+                writer.see(f"{name} {path} {options}", writer.write(name, path, *options), 2, told.format(path), before)
+        for path in ("v.unfinished-", "v.unfinished-1x", "v.unfinished-1.old", "v.unfinished--1", "v-unfinished-1"):
+            writer.see(f"{name} {path}", writer.write(name, path), 0, "", before | {path: writer.commands[name][3]})
+            (writer.folder / path).unlink()
+    writer.fill()
+    before = content(writer.folder)
+    for volume, log in (("v.unfinished-1", "l"), ("v", "v.unfinished-1")):
+        done = writer.run("restore", "-o", volume, "--log-out", log, *FILES)
+        writer.see(f"restore -o {volume} --log-out {log}", done, 2, told.format("v.unfinished-1"), before)
 
 
 # Audits and names
@@ -418,8 +465,8 @@ def check_names(writer):
         raise Failure("list: an escape sequence is told")
 
 
-CHECKS = (check_kept, check_inputs, check_saves, check_meanwhile, check_locks, check_at_once, check_leftovers, check_audits,
-          check_names)
+CHECKS = (check_kept, check_inputs, check_saves, check_meanwhile, check_locks, check_at_once, check_leftovers,
+          check_left_inputs, check_unfinished_names, check_audits, check_names)
 
 
 def main(arguments):
@@ -443,7 +490,7 @@ def main(arguments):
             raise Failure("\n".join(failed))
     except (Failure, OSError, subprocess.SubprocessError) as failure:
         sys.exit(f"outputs.py: {failure}")
-    print(f"ok outputs: what is kept stands, what is locked is let be, and what was left is removed, {writer.checks} times")
+    print(f"ok outputs: what is kept stands, what is locked is let be, and what was left is told and stays, {writer.checks} times")
 
 
 if __name__ == "__main__":

@@ -1,2 +1,3 @@
 mod CopyChains
 mod Statuses
+mod UnfinishedNames

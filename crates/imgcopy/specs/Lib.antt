@@ -2,3 +2,4 @@ pub mod CopyChain
 pub mod Ends
 pub mod Manifests
 pub mod ReadFiles
+pub mod Unfinished

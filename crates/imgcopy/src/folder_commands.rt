@@ -6,6 +6,7 @@ ghost use Rattle.open_database.specs.Backups.{WasBackedUp};
 ghost use Rattle.open_database.specs.ClosedVolume.{WasRenewed};
 ghost use Rattle.imgcopy.specs.Ends.{status_of_closed};
 
+use crate::leftovers::{UNFINISHED_NAME, is_unfinished};
 use crate::output::{parts_of, tell};
 use open_database::{BackupCall, OpenEnd, RenewCall, backup_folder, renew_folder};
 use script_run::FAULT_STATUS;
@@ -39,6 +40,10 @@ pub(crate) fn renew(rt: &HostRuntime, old: &str, new: &str) -> ExitCode
         tell(rt, new, &"this names no folder");
         return ExitCode::from(FAULT_STATUS);
     };
+    if is_unfinished(name) {
+        tell(rt, new, &UNFINISHED_NAME);
+        return ExitCode::from(FAULT_STATUS);
+    }
     status_of(renew_folder(rt, &RenewCall { old, folder, name }))
 }
 

@@ -65,7 +65,7 @@ pub fn look(
     if is_manifest(rt, path) {
         return Err(OutputFault::Manifest);
     }
-    if is_input(rt, path, &limits.inputs) {
+    if is_input(rt, &Path::new(path), &limits.inputs) {
         return Err(OutputFault::Kept(Kept::Input));
     }
     Ok(())
@@ -81,8 +81,8 @@ fn is_manifest(rt: &HostRuntime, path: &str) -> bool {
 }
 
 /// Whether a path leads to a file that the command reads.
-fn is_input(rt: &HostRuntime, path: &str, inputs: &Inputs<'_>) -> bool {
-    let Some(identity) = FileIdentity::at(rt, path) else {
+pub fn is_input(rt: &HostRuntime, path: &Path<'_>, inputs: &Inputs<'_>) -> bool {
+    let Some(identity) = FileIdentity::at(rt, *path) else {
         return false;
     };
     let is_it = |name: &str| FileIdentity::at(rt, name) == Some(identity);

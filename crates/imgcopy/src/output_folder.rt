@@ -1,9 +1,10 @@
 //! The folder of a file that `-o` or `--log-out` names.
 
-ghost use Rattle.std.specs.Prelude.{◌≡◌, None};
+ghost use Rattle.std.specs.Prelude.{◌≡◌, IfSome, None};
 ghost use Rattle.std.specs.Process.{exit_status};
+ghost use Rattle.imgcopy.specs.Unfinished.{NamesUnfinished};
 
-use crate::leftovers::clear_leftovers;
+use crate::leftovers::{UNFINISHED_NAME, is_unfinished, tell_left_beside};
 use crate::output::{Limits, OutputFault, look, parts_of, tell, tell_fault, tell_placed};
 use saved_files::{Folder, PutStoredFault};
 use script_run::FAULT_STATUS;
@@ -25,25 +26,31 @@ pub struct OutputFolder<'a> {
     there: SystemFolder<'a>,
     limits: Limits<'a>,
     notes: &'a Notes,
-    /// The name of another output of the same command, in the same folder.
-    other: Option<&'a str>,
     /// Another output of the same command has the folder.
     is_shared: bool,
     fault: Option<OutputFault>,
 }
 
 impl<'a> OutputFolder<'a> {
-    /// The folder of this path. None where the path names no file, which is told.
+    /// The folder of this path. None where the path names no file, or has the name of an unfinished
+    /// one, which is told.
     pub fn of(
         rt: &'a HostRuntime,
         path: &'a str,
         limits: Limits<'a>,
         notes: &'a Notes,
-    ) -> Option<OutputFolder<'a>> {
+    ) -> Option<OutputFolder<'a>>
+        // It has no unfinished file's name: what is told to be left is no output.
+        ensures { IfSome result (λ it. ¬ NamesUnfinished it.name.now) }
+    {
         let Some((folder, name)) = parts_of(path) else {
             tell(rt, path, &"this names no file");
             return None;
         };
+        if is_unfinished(name) {
+            tell(rt, path, &UNFINISHED_NAME);
+            return None;
+        }
         Some(OutputFolder {
             rt,
             path,
@@ -52,18 +59,9 @@ impl<'a> OutputFolder<'a> {
             there: SystemFolder::new(rt, rt.alloc(), folder, notes).guarded(limits.force),
             limits,
             notes,
-            other: None,
             is_shared: false,
             fault: None,
         })
-    }
-
-    /// The same folder, where another output of the command gets this name in it.
-    pub fn beside(self, other: &'a str) -> OutputFolder<'a> {
-        OutputFolder {
-            other: Some(other),
-            ..self
-        }
     }
 
     /// The same folder, where another output of the command has it once it is to be had again.
@@ -75,7 +73,9 @@ impl<'a> OutputFolder<'a> {
     }
 
     /// The name that the output is to have.
-    pub fn name(&self) -> &'a str {
+    pub fn name(&self) -> &'a str
+        ensures { result ≡ self.now.name }
+    {
         self.name
     }
 
@@ -110,7 +110,8 @@ impl<'a> OutputFolder<'a> {
         Err(io::Error::from(ErrorKind::Other))
     }
 
-    /// Has the folder while it looks at what stands there and makes a file of this name.
+    /// Has the folder while it looks at what stands there and makes a file of this name. What is left
+    /// beside the output is told once that is made.
     fn made(&mut self, beside: &str) -> io::Result<Noted<'a, File>> {
         if let Err(fault) = look(self.rt, self.path, self.name, &self.limits) {
             return self.fails(fault);
@@ -118,12 +119,12 @@ impl<'a> OutputFolder<'a> {
         if let Err(fault) = self.there.claim_soon() {
             return self.fails(OutputFault::Folder(fault));
         }
-        clear_leftovers(self.rt, self.folder, self.name);
         let made = self.there.make(beside)?;
         if made.file.try_lock().is_err() {
             let _ = self.there.give_up(beside, SystemFolder::finish(made));
             return self.fails(OutputFault::System);
         }
+        tell_left_beside(self.rt, self.folder, self.name, &self.limits.inputs);
         Ok(made)
     }
 
@@ -163,9 +164,6 @@ impl<'a> Folder for OutputFolder<'a> {
     }
 
     fn make(&mut self, name: &str) -> io::Result<Noted<'a, File>> {
-        if self.other == Some(name) {
-            return Err(io::Error::from(ErrorKind::AlreadyExists));
-        }
         let made = self.made(name);
         self.there.release();
         made

@@ -334,8 +334,7 @@ fn folders_of<'a>(
     if !have_one_folder(rt, log.0, volume.0) {
         return Some((folder, log_folder));
     }
-    let (log_name, name) = (log_folder.name(), folder.name());
-    Some((folder.beside(log_name), log_folder.beside(name).shared()))
+    Some((folder, log_folder.shared()))
 }
 
 /// Tells which of both is not in its place, or may not stay there, and which are.
