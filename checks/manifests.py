@@ -43,6 +43,7 @@ OTHER = "is not the file that the manifest names"
 UNNAMED = "the manifest beside it does not name it"
 BARE = "imgcopy: no manifest stands beside the files: they are not compared\n"
 WAY_ON = "--no-manifest"
+THERE = f"put the files' manifest there, or go on by {WAY_ON}"
 BOTH = "error: the argument '--manifest <FILE>' cannot be used with '--no-manifest'\n"
 MOST_SECONDS = 60
 SMALL_CHAIN = ("copy-1", "copy-2")
@@ -217,7 +218,36 @@ def check_manifests(folder, files, others, volume, step):
     folder.taken("the manifest of the other day is left aside", volume, "--no-manifest")
     (folder.place / "manifest").unlink()
     folder.taken("the manifest is moved away", volume, told=BARE)
+    check_irregular(folder, files, volume)
     folder.fill(files)
+
+
+def check_irregular(folder, files, volume):
+    """What has the manifest's name is a link that leads nowhere, a folder or a pipe: no command passes it over. A link to a
+    manifest counts."""
+    path, told = folder.place / "manifest", f"E33 ReadFault\nimgcopy: ./manifest: this is no regular file: {THERE}"
+    commands = (["restore", *FILES], ["restore", "."], ["restore", "--copy=1", "."], ["audit", "log", *CHAIN],
+                ["verify", "."], ["list", "."])
+    for what, make in (("a link that leads nowhere", lambda: path.symlink_to("not there")), ("a folder", path.mkdir),
+                       ("a pipe", lambda: os.mkfifo(path))):
+        folder.fill(without_manifest(files))
+        make()
+        for words in commands:
+            done, aside = folder.run(*words), folder.run(*words, "--no-manifest")
+            is_shown = words[0] in ("verify", "list")
+            if done.returncode != 2 or done.stderr.decode() != f"{told}\n" or (done.stdout and not is_shown):
+                raise Failure(f"{words}, {what} as the manifest: status {done.returncode}, {done.stderr[:200]!r}")
+            if aside.returncode or (is_shown and aside.stdout != done.stdout):
+                raise Failure(f"{words} --no-manifest, {what} as the manifest: status {aside.returncode},"
+                              f" {aside.stderr[:200]!r}")
+            folder.counts["irregular manifests"] += 1
+        path.rmdir() if what == "a folder" else path.unlink()
+    folder.fill(without_manifest(files))
+    folder.place.with_name("kept manifest").write_bytes(files["manifest"])
+    path.symlink_to("../kept manifest")
+    folder.taken("a link to the manifest", volume)
+    folder.put("log", files["log"][:-RECORD])
+    folder.refused("a link to the manifest, and another log")
 
 
 def check_told(folder, files, others, volume):

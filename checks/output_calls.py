@@ -17,7 +17,8 @@ did what it was asked for: the status is 2, the lines name what failed and which
 
 `backup --into` puts the log, its copy, the master record and the manifest in place, one after another, each synced and
 named for certain before the next one is renamed: where the power fails, the manifest names what is there. `renew` gives the
-new folder its name behind the last sync of its files, and has that last.
+new folder its name behind the last sync of its files, and has that last. `list` opens the manifest before the log, which
+may grow beside it.
 """
 
 import os
@@ -367,6 +368,23 @@ def check_second(checker, data, before):
             checker.counts["losses"] += 1
 
 
+def check_list(checker):
+    """A list reads the manifest before the log, which has at least what is named then."""
+    folder = database(checker)
+    checker.plain("backup", folder, "--into", checker.top)
+    data, opened, at = noted(checker, "list", checker.top), [], 0
+    while at < len(data):
+        end = data.index(b"\n", at)
+        count = int(data[at:end].split(b" ")[3])
+        if data.startswith(b"open ", at):
+            opened.append(os.path.basename(data[end + 1:end + 1 + count].decode()))
+        at = end + 1 + count
+    see("list, the files that it opens", {"copy-1", "copy-2", "log", NAME} - set(opened), set())
+    if opened.index(NAME) > opened.index("log"):
+        raise Failure(f"list: it opens {opened} in this order")
+    checker.counts["commands"] += 1
+
+
 def check_renewal(checker):
     folder = database(checker)
     made = f"new{UNFINISHED}1"
@@ -398,6 +416,7 @@ def main(arguments):
                 events, names = check_calls(checker, case)
                 check_failures(checker, case, events, names)
             check_backup(checker)
+            check_list(checker)
             check_renewal(checker)
     except (Failure, OSError, subprocess.SubprocessError) as failure:
         sys.exit(f"output_calls.py: {failure}")

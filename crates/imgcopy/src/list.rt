@@ -2,6 +2,7 @@
 
 use crate::advice::tell_unwritten;
 use crate::listed_sums::are_named;
+use crate::manifests::manifest_for;
 use crate::reasons::tell_view;
 use crate::view::bytes_of;
 use crate::{noted, patient};
@@ -73,16 +74,15 @@ fn listed(
     rt: &HostRuntime,
     folder: &str,
     form: Form,
-    manifest: ManifestUse<'_>,
+    choice: ManifestUse<'_>,
     ids: &[u32],
 ) -> Result<bool, AllocError> {
+    // Beside an open database the log grows, and the manifest names more of it by and by.
+    let named = manifest_for(rt, folder, choice)?;
     let name = format!(in rt.alloc(); "{folder}/log")?;
     let input = Notes::new();
     let bytes = log_bytes(rt, name.as_str(), &input);
-    let found = match &bytes {
-        Ok(bytes) => facts_of(rt.alloc(), bytes),
-        Err(fault) => Err(*fault),
-    };
+    let found = facts_in(rt, &bytes);
     let end = found.as_ref().ok().map(|log| log.end());
     let mut rows = Rows::new(rt.alloc(), end);
     let mut is_right = true;
@@ -101,7 +101,12 @@ fn listed(
     is_right = written(rt, text.as_str()) && is_right;
     is_right = is_log_right(rt, name.as_str(), &found, &input) && is_right;
     let log = bytes.as_ref().ok().map(|bytes| bytes.as_slice());
-    Ok(are_named(rt, folder, manifest, &rows, log)? && is_right)
+    let are_named = match &named {
+        Some(Some(manifest)) => are_named(rt, folder, choice, manifest, &rows, log)?,
+        Some(None) => true,
+        None => false,
+    };
+    Ok(are_named && is_right)
 }
 
 /// Tells what is wrong with copies, and says whether nothing is.
@@ -221,11 +226,16 @@ pub fn written(rt: &HostRuntime, text: &str) -> bool {
 pub fn has_right_log(rt: &HostRuntime, folder: &str) -> Result<bool, AllocError> {
     let name = format!(in rt.alloc(); "{folder}/log")?;
     let input = Notes::new();
-    let found = match log_bytes(rt, name.as_str(), &input) {
-        Ok(bytes) => facts_of(rt.alloc(), &bytes),
-        Err(fault) => Err(fault),
-    };
+    let found = facts_in(rt, &log_bytes(rt, name.as_str(), &input));
     Ok(is_log_right(rt, name.as_str(), &found, &input))
+}
+
+/// What the bytes of a log come to, if they could be read.
+fn facts_in(rt: &HostRuntime, bytes: &Result<Vec<u8>, ViewFault>) -> Result<LogFacts, ViewFault> {
+    match bytes {
+        Ok(bytes) => facts_of(rt.alloc(), bytes),
+        Err(fault) => Err(*fault),
+    }
 }
 
 /// Whether the log is right; what is wrong with it is told.

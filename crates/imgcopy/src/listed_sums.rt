@@ -1,30 +1,26 @@
 //! What `list` compares with a manifest: how many bytes the copies have, and the log, which it reads.
 
-use crate::manifests::{OtherFile, manifest_for, tell_unnamed};
+use crate::manifests::{OtherFile, tell_unnamed};
 use checked_files::{Known, ManifestUse, ReadFile, fits_length, known_file};
 use file_view::Rows;
 use manifest::{Extent, FileSum, Manifest, Sums};
 use std::alloc::AllocError;
 
-/// Whether the copies that are listed, and the log of these bytes, may be the files that a manifest
-/// names. What is another file is told.
+/// Whether the copies that are listed, and the log of these bytes, may be the files that this
+/// manifest names. What is another file is told. The manifest was read before the log, which may
+/// grow meanwhile.
 pub fn are_named(
     rt: &HostRuntime,
     folder: &str,
     choice: ManifestUse<'_>,
+    manifest: &Manifest,
     rows: &Rows,
     log: Option<&[u8]>,
 ) -> Result<bool, AllocError> {
-    let Some(found) = manifest_for(rt, folder, choice)? else {
-        return Ok(false);
-    };
-    let Some(manifest) = found else {
-        return Ok(true);
-    };
     let mut are_named = true;
     if let Some(bytes) = log {
         let place = format!(in rt.alloc(); "{folder}/log")?;
-        if let Some(file) = named(rt, choice, &manifest, place.as_str(), "log") {
+        if let Some(file) = named(rt, choice, manifest, place.as_str(), "log") {
             are_named = is_log_named(rt, place.as_str(), file, bytes);
         }
     }
@@ -32,7 +28,7 @@ pub fn are_named(
         let id = row.header.id;
         let name = format!(in rt.alloc(); "copy-{id}")?;
         let place = format!(in rt.alloc(); "{folder}/copy-{id}")?;
-        if let Some(file) = named(rt, choice, &manifest, place.as_str(), name.as_str()) {
+        if let Some(file) = named(rt, choice, manifest, place.as_str(), name.as_str()) {
             are_named = is_copy_named(rt, place.as_str(), file, row.bytes) && are_named;
         }
     }

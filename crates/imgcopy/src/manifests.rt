@@ -17,6 +17,7 @@ use std::alloc::AllocError;
 use std::fmt::Display;
 use std::fs;
 use std::io::ErrorKind;
+use std::path::Path;
 use system_files::{Escaped, Notes};
 
 /// The name that a manifest has.
@@ -284,7 +285,7 @@ fn log_beside(rt: &HostRuntime, folder: &str) -> Result<Option<u64>, AllocError>
 }
 
 /// How many bytes a regular file has.
-fn length_at(rt: &HostRuntime, place: &str) -> Option<u64> {
+pub fn length_at(rt: &HostRuntime, place: &str) -> Option<u64> {
     match fs::metadata(rt, place) {
         Ok(there) if there.is_file() => Some(there.len()),
         _ => None,
@@ -314,19 +315,35 @@ pub fn manifest_for(
 /// The manifest that stands in a folder. None where it is refused, which is told.
 fn read_beside<'a>(rt: &HostRuntime, folder: &'a str) -> Result<Option<Beside<'a>>, AllocError> {
     let place = format!(in rt.alloc(); "{folder}/{MANIFEST}")?;
-    let stands = match fs::metadata(rt, place.as_str()) {
-        Ok(there) => there.is_file(),
-        Err(error) => error.kind() != ErrorKind::NotFound,
-    };
-    let manifest = if stands {
+    let manifest = if is_absent(rt, place.as_str()) {
+        None
+    } else if may_be_read(rt, place.as_str()) {
         let Some(manifest) = read_manifest(rt, place.as_str()) else {
             return Ok(None);
         };
         Some(manifest)
     } else {
-        None
+        tell_irregular(rt, place.as_str());
+        return Ok(None);
     };
     Ok(Some(Beside { folder, manifest }))
+}
+
+/// Whether nothing has this name, not even a link that leads nowhere.
+pub fn is_absent(rt: &HostRuntime, place: &str) -> bool {
+    match fs::symlink_metadata(rt, Path::new(place)) {
+        Ok(_) => false,
+        Err(error) => error.kind() == ErrorKind::NotFound,
+    }
+}
+
+/// Whether a name that something has leads to a regular file, as far as can be told: of a pipe an
+/// open may never end.
+pub fn may_be_read(rt: &HostRuntime, place: &str) -> bool {
+    match fs::metadata(rt, place) {
+        Ok(there) => there.is_file(),
+        Err(error) => error.kind() != ErrorKind::NotFound,
+    }
 }
 
 /// The manifest in a file. None where it is refused, which is told.
@@ -349,6 +366,12 @@ fn read_manifest(rt: &HostRuntime, place: &str) -> Option<Manifest> {
             None
         }
     }
+}
+
+fn tell_irregular(rt: &impl Eprint, place: &str) {
+    let place = Escaped(place);
+    let _ = rt.eprintln(&ViewFault::ReadFault);
+    let _ = eprintln!(rt; "imgcopy: {place}: this is no regular file: {MANIFEST_WAY_ON}");
 }
 
 fn tell_refused(rt: &impl Eprint, place: &str, fault: &ManifestFault) {
