@@ -344,10 +344,46 @@ def spoiled(folders, folder):
             folders.wants(f"a bit of {name}", done.returncode == 2 and line in done.stdout.splitlines(), done)
         (day / name).write_bytes(whole)
     bare(folders, day)
+    cut_behind_closing(folders)
     (folder / "copy-1").rename(folder / "kept")
     done = folders.run("verify", folder)
     folders.wants("a copy that is gone", done.returncode == 2 and b"copy 2 lacks copy 1\n" in done.stdout, done)
     (folder / "kept").rename(folder / "copy-1")
+
+
+def cut_behind_closing(folders):
+    """The log of a closed database loses its last records, of which neither a manifest nor a copy tells."""
+    folder = folders.made("noted", [*FIRST, "copy"], ["begin", "set 2 1 3 9", "commit 2"])
+    log, noted = (folder / "log").read_bytes(), (folder / "closed").read_bytes()
+    verify = ["verify", "--no-manifest", folder]
+    whole = folders.run(*verify)
+    is_closed = whole.returncode == 0 and not whole.stderr and noted == b"%d\n" % len(log)
+    folders.wants("a closed database is verified", is_closed, whole)
+    for count in (64, 128):
+        (folder / "log").write_bytes(log[:-count])
+        line = f"log ends at {len(log) - count}: `closed` says that it ended at {len(log)}\n"
+        folders.says(f"{count} bytes less than `closed` says", folders.run(*verify), 2, line + whole.stdout.decode())
+    (folder / "log").write_bytes(log)
+    name = f"imgcopy: {folder}/closed"
+    for data in (b"", b"0\n", b"064\n", b"+64\n", b"64", b"64\n\n", b"six\n", b"\xff\n", b"18446744073709551616\n",
+                 noted + b"\n" * 40):
+        (folder / "closed").write_bytes(data)
+        folders.says(f"a note {data[:20]!r}", folders.run(*verify), 0, whole.stdout.decode(),
+                     f"{name}: this is no note of a closing")
+    (folder / "closed").write_bytes(b"18446744073709551615\n")
+    line = f"log ends at {len(log)}: `closed` says that it ended at 18446744073709551615\n"
+    folders.says("a note of a long log", folders.run(*verify), 2, line + whole.stdout.decode())
+    (folder / "closed").write_bytes(b"64\n")
+    folders.says("a note of a shorter log", folders.run(*verify), 0, whole.stdout.decode())
+    (folder / "closed").unlink()
+    folders.says("no note", folders.run(*verify), 0, whole.stdout.decode())
+    for make in ((folder / "closed").mkdir, lambda: os.mkfifo(folder / "closed"),
+                 lambda: (folder / "closed").symlink_to("nothing")):
+        make()
+        folders.says("a note that is no file", folders.run(*verify), 2, whole.stdout.decode(), "E33 ReadFault",
+                     f"{name}: this is no regular file")
+        (folder / "closed").rmdir() if (folder / "closed").is_dir() else (folder / "closed").unlink()
+    (folder / "closed").write_bytes(noted)
 
 
 def without_copies(folders):

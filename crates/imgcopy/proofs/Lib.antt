@@ -1,3 +1,4 @@
+mod ClosingNotes
 mod CopyChains
 mod Statuses
 mod UnfinishedNames

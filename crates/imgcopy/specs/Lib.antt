@@ -1,3 +1,4 @@
+pub mod Closing
 pub mod CopyChain
 pub mod Ends
 pub mod Manifests

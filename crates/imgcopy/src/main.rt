@@ -12,6 +12,7 @@ ghost use Rattle.imgcopy.specs.Ends.{status_of_opened};
 mod advice;
 mod audits;
 mod chain_reason;
+mod closing;
 mod copy_chain;
 mod folder_commands;
 mod headers;

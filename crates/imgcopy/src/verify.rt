@@ -1,7 +1,8 @@
 //! The command `verify`.
 
+use crate::closing::{Closing, closing_of};
 use crate::list::{has_right_log, header_of, ids_in, is_irregular, written};
-use crate::manifests::manifest_for;
+use crate::manifests::{length_at, manifest_for};
 use checked_files::{Known, ManifestUse, ReadFile, known_file};
 use copy_audit::{Sound, Unsound};
 use file_view::{CopyHeader, ViewFault};
@@ -71,12 +72,42 @@ fn verified(
         }
     };
     let are_named = files_are_named(rt, threads, folder, manifest, text)?;
+    // The note first: the log of an open database only grows.
+    let closing = closing_of(rt, folder)?;
+    let goes_on = log_reaches(rt, folder, closing, text)?;
     let are_sound = if ids.is_empty() {
         has_right_log(rt, folder)?
     } else {
         copies_are_sound(rt, folder, ids.as_slice(), text)?
     };
-    Ok(are_named && are_sound)
+    Ok(are_named && goes_on && are_sound)
+}
+
+/// Whether the file of the log has the bytes that the note of a closing tells of. That it has fewer
+/// is told. That there is none, or that not all of its bytes are records, is told elsewhere.
+fn log_reaches(
+    rt: &HostRuntime,
+    folder: &str,
+    closing: Closing,
+    text: &mut String,
+) -> Result<bool, AllocError> {
+    let noted = match closing {
+        Closing::Unknown => return Ok(true),
+        Closing::Unread => return Ok(false),
+        Closing::At(end) => end.0,
+    };
+    let log = format!(in rt.alloc(); "{folder}/log")?;
+    let Some(bytes) = length_at(rt, log.as_str()) else {
+        return Ok(false);
+    };
+    if noted <= bytes {
+        return Ok(true);
+    }
+    let line = format!(in rt.alloc();
+        "log ends at {bytes}: `closed` says that it ended at {noted}\n"
+    )?;
+    text.push_str(line.as_str())?;
+    Ok(false)
 }
 
 /// Sums the files that the manifest names. Where there is none, though one would count, that is told.
