@@ -183,9 +183,16 @@ handed_same : (old mid : Option Entries) (is_salvage : Bool) (first : FirstLine)
 unfolding goes_on_same
 handed_same old mid is_salvage (New pages) engine unread point is_wrong same on = on
 handed_same old mid is_salvage (Restarted cut taken_back records) engine unread point is_wrong same on =
-    let first = Restarted cut taken_back records in
-    (on.0, on.1, on.2, on.3, goes_on_same old mid is_salvage on.0 on.1 on.2 on.3 first engine same on.4, on.5, on.6,
-    wrong_same old mid on.4.log on.4.master is_wrong same on.7)
+    let first = Restarted cut taken_back records in (
+      on.0,
+      on.1,
+      on.2,
+      on.3,
+      goes_on_same old mid is_salvage on.0 on.1 on.2 on.3 first engine same on.4,
+      on.5,
+      on.6,
+      wrong_same old mid on.4.log on.4.master is_wrong same on.7,
+    )
 
 -- so it is behind a claim that left the folder as it was
 pub handed_in : {T E : Type 0} (r : Result T E) (first : T → FirstLine) (state : T → EngineState)

@@ -123,8 +123,12 @@ pub puts_one : (name : List ℕ) (a b : Option Entries) → MayKnowMore name →
 puts_one name a b may = so a b (λ old new moves n alone had. elim moves [
   | inl same ↦ inl (same n)
   | inr moved ↦ elim (by_test n name) [
-    | inl it ↦ inr (subst MayKnowMore (sym it) may, moved.0, subst (λ (m : List ℕ). IsAside m moved.0) (sym it) moved.1,
-        moved.3.moved ∙ ap old (sym it))
+    | inl it ↦ inr (
+      subst MayKnowMore (sym it) may,
+      moved.0,
+      subst (λ (m : List ℕ). IsAside m moved.0) (sym it) moved.1,
+      moved.3.moved ∙ ap old (sym it),
+    )
     | inr apart ↦ inl (moved.3.others n apart (λ it. had (ap old it ∙ moved.2)))
   ]
 ])
