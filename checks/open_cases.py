@@ -111,7 +111,7 @@ def check_refusals(program):
     folder = program.folder()
     (folder / "log").mkdir()
     program.refuse("a folder as the log", folder, ["--pages", "2"], "E33 ReadFault",
-                   f"imgcopy: {folder}/log: Is a directory (os error 21)")
+                   f"imgcopy: {folder}/log: this is no regular file")
     folder = program.folder()
     os.mkfifo(folder / "log")
     program.refuse("a pipe as the log", folder, ["--pages", "2"], "E33 ReadFault",
