@@ -291,12 +291,16 @@ def facts_of(log, rows):
 
 
 def flaw_of(header, length, log):
-    """What is wrong with a copy: its length, or a log that ends below it."""
+    """What is wrong with a copy: its length, its page count, or a log that ends below it."""
     if length != 64 + PAGE * header["taken"]:
         return "E38 CountDiffers"
     if log is None:
         return None
-    end = RECORD * len(show_log(log)[0])
+    lines = show_log(log)[0]
+    grown = [it["pages"] for it in lines[1:] if it["kind"] == "extend" and it["lsn"] < header["begin"]]
+    if header["pages"] != max(u32(log, 8), *grown, 0):
+        return "E37 ChainBroken"
+    end = RECORD * len(lines)
     if header["redo"] >= end:
         return "E39 RedoBeyondLog"
     return "begins past the log" if header["begin"] >= end else None
@@ -333,12 +337,23 @@ def check_pipe(viewer, what, path):
     path.write_bytes(whole)
 
 
+def with_a_page_more(data):
+    """The bytes of a copy of a volume that has one page more. A full copy takes that page, too."""
+    header = header_of(data)
+    more = data[:8] + (header["pages"] + 1).to_bytes(4, "little") + data[12:]
+    if header["parent"]:
+        return more
+    return more[:40] + (header["taken"] + 1).to_bytes(4, "little") + more[44:] + bytes(PAGE)
+
+
 def check_flaws(viewer, what, path, log):
-    """A copy that is cut, or longer; and logs that end below its checkpoint and below its redo point."""
+    """A copy that is cut, longer, or of one page more; and logs that end below its checkpoint and its redo point."""
     data, whole = path.read_bytes(), log.read_bytes()
     for length in {64, len(data) - 1, len(data) + 1} - {63, len(data)}:
         path.write_bytes(data[:length] + bytes(max(0, length - len(data))))
         list_folder(viewer, f"{what}, {length} bytes of {path.name}", path.parent)
+    path.write_bytes(with_a_page_more(data))
+    list_folder(viewer, f"{what}, a page more in {path.name}", path.parent)
     path.write_bytes(data)
     header = header_of(data)
     for end in {header["begin"], header["redo"]}:

@@ -4,7 +4,8 @@ ghost use Rattle.std.specs.Prelude.{◌≡◌, [], OnErr, OnOk};
 ghost use Rattle.file_view.specs.CopyRows.{AddsRow, IsFlawOf, lacking_at, lacking_from};
 
 use crate::copy_header::CopyHeader;
-use page_core::{FaultName, Lsn};
+use crate::summary::LogFacts;
+use page_core::FaultName;
 use std::alloc::{AllocError, Global};
 use std::fmt;
 
@@ -14,6 +15,8 @@ use std::fmt;
 pub enum CopyFlaw {
     /// Its file is shorter or longer than its header says.
     Length,
+    /// It has another page count than the log before its checkpoint.
+    Pages,
     /// Its redo point is not below the log's end.
     Redo,
     /// The checkpoint that it notes does not begin below the log's end.
@@ -24,6 +27,7 @@ impl fmt::Display for CopyFlaw {
     fn fmt<W: fmt::Write>(&self, f: &mut fmt::Formatter<W>) -> fmt::Result {
         match self {
             CopyFlaw::Length => write!(f, "{}", FaultName::CountDiffers),
+            CopyFlaw::Pages => write!(f, "{}", FaultName::ChainBroken),
             CopyFlaw::Redo => write!(f, "{}", FaultName::RedoBeyondLog),
             CopyFlaw::Begin => f.write_str("begins past the log"),
         }
@@ -47,36 +51,36 @@ pub struct CopyRow {
 #[derive(Drop)]
 pub struct Rows {
     rows: Vec<CopyRow>,
-    /// The end of the log beside them, if it is known.
-    end: Option<Lsn>,
 }
 
 impl Rows {
-    /// No copies yet, beside a log that ends here.
-    pub fn new(alloc: Global, end: Option<Lsn>) -> Rows
-        ensures none { result.rows.items ≡ [] }
-        ensures end { result.end ≡ end }
+    /// No copies yet.
+    pub fn new(alloc: Global) -> Rows
+        ensures { result.rows.items ≡ [] }
     {
         Rows {
             rows: Vec::new(alloc),
-            end,
         }
     }
 
-    /// Notes the next copy, whose file has so many bytes. Its id has to be above those of the
-    /// copies before it, as each parent is below its child.
-    pub fn push(&mut self, header: CopyHeader, bytes: u64) -> Result<(), AllocError>
-        ensures ok { OnOk result (AddsRow header bytes self.old.end
+    /// Notes the next copy, whose file has so many bytes, beside this log, if one is known. Its id
+    /// has to be above those of the copies before it, as each parent is below its child.
+    pub fn push(
+        &mut self,
+        header: CopyHeader,
+        bytes: u64,
+        log: &Option<LogFacts>,
+    ) -> Result<(), AllocError>
+        ensures ok { OnOk result (AddsRow header bytes log.now
             self.old.rows.items self.new.rows.items) }
         ensures err { OnErr result (self.new.rows.items ≡ self.old.rows.items) }
-        ensures end { self.new.end ≡ self.old.end }
     {
         let missing = if header.parent == 0 {
             None
         } else {
             missing_at(&self.rows, header.parent)
         };
-        let flaw = flaw_of(&header, bytes, self.end);
+        let flaw = flaw_of(&header, bytes, log);
         self.rows.push(CopyRow {
             header,
             bytes,
@@ -117,17 +121,22 @@ fn missing_from(row: &CopyRow) -> Option<u32>
     }
 }
 
-/// What is wrong with a copy, whose file has so many bytes, beside a log that ends here.
-fn flaw_of(header: &CopyHeader, bytes: u64, end: Option<Lsn>) -> Option<CopyFlaw>
-    ensures { IsFlawOf header.now bytes end result }
+/// What is wrong with a copy, whose file has so many bytes, beside this log. As a restore does, it
+/// looks at the page count before the redo point.
+fn flaw_of(header: &CopyHeader, bytes: u64, log: &Option<LogFacts>) -> Option<CopyFlaw>
+    ensures { IsFlawOf header.now bytes log.now result }
 {
     if bytes != header.bytes() {
         return Some(CopyFlaw::Length);
     }
-    let end = end?;
-    if header.redo >= end {
+    let Some(log) = log else {
+        return None;
+    };
+    if header.pages != log.counts.below(header.begin) {
+        Some(CopyFlaw::Pages)
+    } else if header.redo >= log.end() {
         Some(CopyFlaw::Redo)
-    } else if header.begin >= end {
+    } else if header.begin >= log.end() {
         Some(CopyFlaw::Begin)
     } else {
         None

@@ -1,6 +1,7 @@
 //! What a folder has: its copies, its log, and what restores of them would do.
 
-ghost use Rattle.std.specs.Prelude.{◌≡◌, ◌+◌, ◌-◌, ◌*◌, ◌/◌, ◌<◌, ◌^◌};
+ghost use Rattle.std.specs.Prelude.{◌≡◌, ◌-◌, ◌/◌};
+ghost use Rattle.file_view.specs.Summary.{end_of};
 
 use crate::copy_row::{CopyFlaw, CopyRow, Rows};
 use crate::fault::ViewFault;
@@ -11,16 +12,16 @@ use crate::show::put_head;
 use log_front::{Cut, FrontScan, scan_front};
 use log_records::{HEADER_BYTES, LogHeader, MAX_OPEN, RECORD_BYTES, log_header};
 use log_store::CkptPoint;
-use page_core::{FaultName, LSN_STEP, Lsn, TxnNo};
+use page_core::{FaultName, LSN_STEP, Lsn, PageCounts, TxnNo};
 use std::alloc::{AllocError, Global};
 use txn_table::OpenTransactions;
 
 /// What a log comes to, read once.
-#[derive(Clone, Copy)]
+#[derive(Drop)]
 pub struct LogFacts {
     pub header: LogHeader,
-    /// How many pages the volume has at its end.
-    pub pages: u32,
+    /// The page counts of its volume.
+    pub counts: PageCounts,
     pub summary: LogSummary,
     /// How many transactions are open at its end.
     pub open: usize,
@@ -33,8 +34,7 @@ pub struct LogFacts {
 impl LogFacts {
     /// Where the log ends: the LSN that its next record would have.
     pub fn end(&self) -> Lsn
-        ensures { self.now.summary.records < 2 ^ 57
-            → result ≡ 64 * self.now.summary.records + 64 }
+        ensures { result ≡ end_of self.now }
     {
         Lsn(
             (self.summary.records as u64)
@@ -55,10 +55,10 @@ pub fn facts_of(alloc: Global, bytes: &[u8]) -> Result<LogFacts, ViewFault> {
     let found = scan.history.into_analysis();
     Ok(LogFacts {
         header,
-        pages: found.counts.last(),
         summary: LogSummary::of(&found),
         open: found.txns.open_count(),
         pending: pending_in(&found.txns),
+        counts: found.counts,
         cut,
     })
 }
@@ -100,7 +100,7 @@ pub fn put_log(
 ) -> Result<(), AllocError> {
     let head = Head::Log {
         format: log.header.format,
-        pages: log.pages,
+        pages: log.counts.last(),
         records: log.summary.records as u64,
     };
     put_head(text, form, head)?;

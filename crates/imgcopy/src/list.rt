@@ -3,7 +3,7 @@
 use crate::advice::tell_unwritten;
 use crate::listed_sums::are_named;
 use crate::manifests::manifest_for;
-use crate::reasons::tell_view;
+use crate::reasons::{Reason, tell_view};
 use crate::view::bytes_of;
 use crate::{noted, patient};
 use checked_files::ManifestUse;
@@ -13,7 +13,7 @@ use file_view::{
     read_copy_header,
 };
 use log_records::HEADER_BYTES;
-use page_core::{Lsn, write_out};
+use page_core::write_out;
 use script_run::FAULT_STATUS;
 use std::alloc::AllocError;
 use std::io::Read;
@@ -83,26 +83,27 @@ fn listed(
     let input = Notes::new();
     let bytes = log_bytes(rt, name.as_str(), &input);
     let found = facts_in(rt, &bytes);
-    let end = found.as_ref().ok().map(|log| log.end());
-    let mut rows = Rows::new(rt.alloc(), end);
+    let fault = fault_of(&found);
+    let log = found.ok();
+    let mut rows = Rows::new(rt.alloc());
     let mut is_right = true;
     for id in ids {
         match header_of(rt, folder, *id)? {
-            Some((header, bytes)) => rows.push(header, bytes)?,
+            Some((header, bytes)) => rows.push(header, bytes, &log)?,
             None => is_right = false,
         }
     }
     let mut text = String::new(rt.alloc());
     put_copies(&mut text, form, &rows)?;
-    if let Ok(log) = &found {
+    if let Some(log) = &log {
         put_log(&mut text, form, &rows, log)?;
     }
-    is_right = tell_flaws(rt, folder, &rows, end) && is_right;
+    is_right = tell_flaws(rt, folder, &rows, &log) && is_right;
     is_right = written(rt, text.as_str()) && is_right;
-    is_right = is_log_right(rt, name.as_str(), &found, &input) && is_right;
-    let log = bytes.as_ref().ok().map(|bytes| bytes.as_slice());
+    is_right = is_log_right(rt, name.as_str(), fault, &input) && is_right;
+    let bytes = bytes.as_ref().ok().map(|bytes| bytes.as_slice());
     let are_named = match &named {
-        Some(Some(manifest)) => are_named(rt, folder, choice, manifest, &rows, log)?,
+        Some(Some(manifest)) => are_named(rt, folder, choice, manifest, &rows, bytes)?,
         Some(None) => true,
         None => false,
     };
@@ -110,9 +111,9 @@ fn listed(
 }
 
 /// Tells what is wrong with copies, and says whether nothing is.
-fn tell_flaws(rt: &impl Eprint, folder: &str, rows: &Rows, end: Option<Lsn>) -> bool {
+fn tell_flaws(rt: &impl Eprint, folder: &str, rows: &Rows, log: &Option<LogFacts>) -> bool {
     let place = Escaped(folder);
-    let end = end.map_or(0, |end| end.0);
+    let end = log.as_ref().map_or(0, |log| log.end().0);
     let mut is_right = true;
     for row in rows.rows() {
         let Some(flaw) = row.flaw else {
@@ -125,6 +126,11 @@ fn tell_flaws(rt: &impl Eprint, folder: &str, rows: &Rows, end: Option<Lsn>) -> 
             CopyFlaw::Length => {
                 let (bytes, wanted) = (row.bytes, header.bytes());
                 eprintln!(rt; "imgcopy: {place}/copy-{id}: has {bytes} bytes, and not {wanted}")
+            }
+            CopyFlaw::Pages => {
+                let wanted = log.as_ref().map_or(0, |log| log.counts.below(header.begin));
+                let reason = Reason::Pages(header.pages, wanted);
+                eprintln!(rt; "imgcopy: {place}/copy-{id}: {reason}")
             }
             CopyFlaw::Redo => eprintln!(rt;
                 "imgcopy: {place}/copy-{id}: redo point {redo} is not below the log's end {end}"
@@ -227,7 +233,7 @@ pub fn has_right_log(rt: &HostRuntime, folder: &str) -> Result<bool, AllocError>
     let name = format!(in rt.alloc(); "{folder}/log")?;
     let input = Notes::new();
     let found = facts_in(rt, &log_bytes(rt, name.as_str(), &input));
-    Ok(is_log_right(rt, name.as_str(), &found, &input))
+    Ok(is_log_right(rt, name.as_str(), fault_of(&found), &input))
 }
 
 /// What the bytes of a log come to, if they could be read.
@@ -238,23 +244,23 @@ fn facts_in(rt: &HostRuntime, bytes: &Result<Vec<u8>, ViewFault>) -> Result<LogF
     }
 }
 
+/// What is wrong with a log.
+fn fault_of(found: &Result<LogFacts, ViewFault>) -> Option<ViewFault> {
+    match found {
+        Ok(log) => Some(ViewFault::Log(log.cut?.fault())),
+        Err(fault) => Some(*fault),
+    }
+}
+
 /// Whether the log is right; what is wrong with it is told.
-fn is_log_right(
-    rt: &HostRuntime,
-    name: &str,
-    found: &Result<LogFacts, ViewFault>,
-    notes: &Notes,
-) -> bool {
-    let fault = match found {
-        Ok(log) => match log.cut {
-            Some(cut) => ViewFault::Log(cut.fault()),
-            None => return true,
-        },
-        Err(ViewFault::ReadFault) if is_irregular(rt, name) => {
+fn is_log_right(rt: &HostRuntime, name: &str, fault: Option<ViewFault>, notes: &Notes) -> bool {
+    let fault = match fault {
+        Some(ViewFault::ReadFault) if is_irregular(rt, name) => {
             tell_irregular(rt, name);
             return false;
         }
-        Err(fault) => *fault,
+        Some(fault) => fault,
+        None => return true,
     };
     let _ = rt.eprintln(&fault);
     tell_view(rt, name, &fault, notes);
