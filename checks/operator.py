@@ -217,6 +217,10 @@ def check_reasons(program):
     (program.folder / "late-1").write_bytes(copy)
     program.check(program.run("audit", "log", "late-1"), "a redo point past the log", 1, b"E39 RedoBeyondLog\n",
                   f"imgcopy: late-1 (image copy 1): its redo point {end} is not below the log's end {end}\n")
+    # Where a pipe ends, no one can look once more.
+    log = (program.folder / "log").read_bytes()
+    program.check(program.run("audit", "/dev/stdin", "late-1", data=log), "a redo point past the end of a pipe", 1,
+                  b"E39 RedoBeyondLog\n", "")
     with open(EXAMPLES / "bad_chain.log", "rb") as source:
         done = program.run("redo", stdin=source)
     program.check(done, "redo of bad_chain.log", 2, b"", second="standard input: its PrevLSN 128 is not the last record"
@@ -238,6 +242,8 @@ def check_growth(program):
     copy = bytearray((program.folder / "copy-1").read_bytes())
     copy[8:12] = copy[40:44] = (pages + 1).to_bytes(4, "little")
     (program.folder / "wide").write_bytes(copy)
+    copy[24:32] = (end + 64).to_bytes(8, "little")
+    (program.folder / "behind").write_bytes(copy)
     for words, status, line, why in (
             ([grown("grown", pages + 1), "copy-1"], 0, "sound", ""),
             ([grown("same", pages), "copy-1"], 2, f"E35 BadChain {end}",
@@ -245,7 +251,9 @@ def check_growth(program):
             ([grown("old", pages + 1, b"1"), "copy-1"], 2, f"E31 BadRecord {end}",
              "old (log): kind 11 is that of no record"),
             (["grown", "wide"], 1, "E37 ChainBroken 1",
-             f"wide (image copy): has {pages + 1} pages, but the log has {pages} before its checkpoint")):
+             f"wide (image copy): has {pages + 1} pages, but the log has {pages} before its checkpoint"),
+            (["--until", str(end - 64), "grown", "behind"], 1, "E37 ChainBroken 1",
+             f"behind (image copy): has {pages + 1} pages, but the log has {pages} before its checkpoint")):
         program.check(program.run("audit", *words), f"audit {' '.join(words)}", status, f"{line}\n".encode(),
                       why and f"imgcopy: {why}\n")
 

@@ -55,11 +55,12 @@ impl<'a> Named<'a> {
         }
     }
 
-    /// Where the log ends, as far as it counts.
+    /// Where the log ends, as far as it counts. Of a pipe this is not known.
     fn log_end(&self, rt: &HostRuntime) -> Option<u64> {
         match self.until {
-            Some(until) => Some(until.0.saturating_add(RECORD_BYTES as u64)),
-            None => end_of(rt, self.log),
+            Some(until) => Some(end_behind(until).0),
+            None if is_regular(rt, self.log) => end_of(rt, self.log),
+            None => None,
         }
     }
 }
@@ -438,19 +439,25 @@ fn reason_of_broken(rt: &HostRuntime, names: &Named<'_>, place: usize) -> Option
         None if header.parent != 0 => Some(Reason::IncFirst(header.parent)),
         Some(_) if header.parent == 0 => Some(Reason::FullBehind),
         Some(id) if header.parent != id => Some(Reason::Parent(header.parent, id)),
-        _ => Some(Reason::Pages(header.pages, pages_before(rt, names.log, header.begin)?)),
+        _ => Some(Reason::Pages(header.pages, pages_before(rt, names, header.begin)?)),
     }
 }
 
-/// How many pages the volume of a log has before the record at this LSN.
-fn pages_before(rt: &HostRuntime, log: &str, lsn: Lsn) -> Option<u32> {
-    if !is_regular(rt, log) {
+/// How many pages the volume of a log has before the record at this LSN, as far as the log counts.
+fn pages_before(rt: &HostRuntime, names: &Named<'_>, lsn: Lsn) -> Option<u32> {
+    if !is_regular(rt, names.log) {
         return None;
     }
-    let mut file = fs::open(rt, log).ok()?;
+    let mut file = fs::open(rt, names.log).ok()?;
     let reached: Reached<()> = scan_to_fault(rt.alloc(), &mut file).ok()?;
     let found = reached.scan.history.into_analysis();
-    Some(found.counts.below(lsn))
+    let end = names.until.map_or(lsn, end_behind);
+    Some(found.counts.below(lsn.min(end)))
+}
+
+/// Where a log ends whose last record is this one.
+fn end_behind(last: Lsn) -> Lsn {
+    Lsn(last.0.saturating_add(RECORD_BYTES as u64))
 }
 
 fn reason_of_count(rt: &HostRuntime, name: &str) -> Option<Reason> {
