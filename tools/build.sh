@@ -1,13 +1,14 @@
 #!/usr/bin/env bash
 # usage: build.sh [PROGRAM..]
-# Proves each program, imgcopy if none is named, and the crates that it stands on, as crates.txt has them, those that do
-# not stand on one another side by side, and puts it into build/. No other crate is proved. What rt says goes to
-# build/prove.log, whose end is shown where rt fails. The sum of the sources that were proved is kept in
+# Proves each program, imgcopy if none is named, and the crates that it stands on, as crates.txt has them, and puts it into
+# build/. No other crate is proved, and no wrong body is tried: `rt ci` does it in a root of its own, outside of this
+# checkout. A crate that nothing runs beside gets all processors, and what rt keeps there spares the gate that work. What
+# rt says goes to build/prove.log, whose end is shown where rt fails. The sum of the sources that were proved is kept in
 # build/PROGRAM.proved: while they and the kit stay as they are, nothing of the program is proved or built again.
 set -u
 cd "$(dirname "$0")/.." || exit 1
-. tools/lanes.sh
-log=build/prove.log
+log=build/prove.log root=
+trap '[ -z "$root" ] || rm -rf "$root"' EXIT
 
 fail() {
     echo "$1. The end of $log:" >&2
@@ -35,7 +36,7 @@ lines_of() {
 sum_of_sources() {
     local lines folders
     lines=$(lines_of "$1")
-    mapfile -t folders < <(sed 's/ *:.*//; s|^|crates/|' <<< "$lines")
+    mapfile -t folders < <(names_of "$1" | sed 's|^|crates/|')
     {
         rt version
         echo "$lines"
@@ -44,32 +45,38 @@ sum_of_sources() {
     } | sha256sum
 }
 
-# In a crate's folder rt looks over that crate's sources first, and then takes those below it and itself, the lowest
-# first, as many at once as it is told. It says "== NAME" once a crate is done.
+# A root with the program and the crates that it stands on, without what a check left there and their wrong bodies.
+make_root() {
+    local name
+    root=$(mktemp -d) || return
+    lines_of "$1" > "$root/crates.txt"
+    cp HANDLES "$root"
+    while read -r name; do
+        mkdir -p "$root/crates/$name"
+        tar -C "crates/$name" --exclude=./out --exclude=./must-fail -cf - . | tar -C "$root/crates/$name" -xf - || return
+    done < <(names_of "$1")
+}
+
+names_of() {
+    lines_of "$1" | sed 's/ *:.*//'
+}
+
+# rt leaves each program that it has proved in out/. It says "rt: NAME proved" once a crate is done, or that it is kept.
 prove() {
     local count
     count=$(lines_of "$1" | wc -l)
-    (cd "crates/$1" && PYTHONUNBUFFERED=1 rt all check --jobs "$(lanes)" 2>&1) | tee -a "$log" | show_progress "$count"
+    (cd "$root" && PYTHONUNBUFFERED=1 rt ci 2>&1) | tee -a "$log" | show_progress "$count"
     return "${PIPESTATUS[0]}"
 }
 
 show_progress() {
-    local mark crate rest
-    declare -A told=()
+    local mark crate rest done=0
     while read -r mark crate rest; do
-        if [ "$mark" = == ] && [ "$crate" != summary ] && [ -z "$rest" ] && [ -z "${told[$crate]-}" ]; then
-            told[$crate]=1
-            echo "done: $crate (${#told[@]} of $1 crates, $(($1 - ${#told[@]})) left)"
+        if [ "$mark" = rt: ] && [[ $rest == proved || $rest == "is kept: "* ]]; then
+            done=$((done + 1))
+            echo "done: $crate ($done of $1 crates, $(($1 - done)) left)"
         fi
     done
-}
-
-# rt links a program that is proved, and leaves it in out/. It is run as the gate runs it.
-build_program() {
-    local input=$PWD/crates/$1/stdin words=()
-    [ -e "$input" ] || input=/dev/null
-    [ ! -e "crates/$1/args" ] || mapfile -t words < "crates/$1/args"
-    (cd "crates/$1" && rt run -- "${words[@]}" < "$input") > /dev/null 2>> "$log"
 }
 
 mkdir -p build
@@ -80,9 +87,10 @@ for program in "$@"; do
     [ ! -x "build/$program" ] || [ "$sum" != "$(cat "build/$program.proved" 2> /dev/null)" ] || continue
     : > "$log"
     rm -f "build/$program.proved"
+    make_root "$program" || fail "there is no room for a copy of the crates"
     prove "$program" || fail "$program, or a crate that it stands on, is not proved"
-    build_program "$program" || fail "$program does not run"
-    cp -f "crates/$program/out/$program" "build/$program" || exit 1
+    cp -f "$root/crates/$program/out/$program" "build/$program" || exit 1
+    rm -rf "$root"
     echo "$sum" > "build/$program.proved"
     echo "built build/$program"
 done
