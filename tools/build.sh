@@ -62,10 +62,11 @@ names_of() {
 }
 
 # rt leaves each program that it has proved in out/. It says "rt: NAME proved" once a crate is done, or that it is kept.
+# A place in a source is told as it is here.
 prove() {
     local count
     count=$(lines_of "$1" | wc -l)
-    (cd "$root" && PYTHONUNBUFFERED=1 rt ci 2>&1) | tee -a "$log" | show_progress "$count"
+    (cd "$root" && PYTHONUNBUFFERED=1 rt ci 2>&1) | sed -u "s|$root/||g" | tee -a "$log" | show_progress "$count"
     return "${PIPESTATUS[0]}"
 }
 
