@@ -76,7 +76,7 @@ def pending_by_turns(folder, tools):
     """64 transactions have changed by turns until the log had room for their undo alone."""
     said = folder / "names"
     run([tools["generate_files"], str(MOST_PAGES), "turns", "1", str(folder)], os.devnull, said, "pending by turns")
-    return ["restore", "--no-manifest", *(str(folder / name) for name in said.read_text().split())], os.devnull
+    return ["restore", *(str(folder / name) for name in said.read_text().split())], os.devnull
 
 
 def log_of_adds(pages, adds):

@@ -112,9 +112,7 @@ class Job(NamedTuple):
     output_size: int = None
 
     def both(self, imgcopy):
-        # No manifest stands beside the files, and a line would say so.
-        aside = ["--no-manifest"] if self.words[0] in ("restore", "audit") else []
-        return {"imgcopy": [imgcopy, self.words[0], *aside, *self.words[1:]], "plain": [self.plain, *self.words]}
+        return {"imgcopy": [imgcopy, *self.words], "plain": [self.plain, *self.words]}
 
     def programs(self, imgcopy, tools):
         return self.both(imgcopy) | ({"copy": [tools["bare_copy"]]} if self.words == ["redo"] else {})

@@ -1,11 +1,10 @@
-"""Compares what a program answers to scripts, and to files that they save, with the model and with worked rows.
+"""Compares what a program answers to random scripts, and to files that they save, with the model.
 
 usage: python3 -m checks.answers PROGRAM [COUNT [FIRST]]
-       python3 -m checks.answers --model [COUNT [FIRST]]     compares the model with the rows and with the definitions alone
+       python3 -m checks.answers --model [COUNT [FIRST]]     compares the model with the definitions alone
 
 COUNT random scripts are made from the seeds FIRST and following, 1000 from seed 1 where none is told. Each is run, and
-its files are redone and restored, right and spoiled. `random_scripts.py SEED` shows a script. A program that has no
-call `save` is compared with scripts and rows without it and `undoto`; the last line tells so.
+its files are redone and restored, right and spoiled. `random_scripts.py SEED` shows a script.
 """
 
 import os
@@ -20,22 +19,14 @@ from functools import lru_cache
 from itertools import repeat
 from pathlib import Path
 
-from checks.manifest_text import WrongManifest, without_manifest
 from checks.savepoints import DifferentWays, compare_ways
-from model import audit_rows as model_audit_rows
-from model import file_rows as model_file_rows
-from model import rows as model_rows
 from model.engine import MOST_FRAMES
-from model.log_format import ADD, BEGIN, MOST_RECORDS, RECORD_SIZE, UPDATE, Change, Record, lsn_of
+from model.log_format import lsn_of
 from model.samples import Draw
-from model.frame_rows import FRAME_ROWS
-from model.growth_rows import BY_ONE, GROWTH_AUDIT_ROWS, GROWTH_FILE_ROWS, GROWTH_ROWS
 from model.random_scripts import Script, bad_script, random_script
 from model.faulty_engine import committed_numbers, numbers_of
-from model.recovery import (Answer, answer_of, audit_files, encode_pages, fault_lines, read_log, redo_all, redo_file,
-                            restore_files, undo_records)
-from model.savepoint_rows import (MANY_COMPS, SAVEPOINT_FILE_ROWS, SAVEPOINT_ROOM, SAVEPOINT_ROWS, SAVEPOINT_SIZES,
-                                  many_comps)
+from model.recovery import (Answer, answer_of, audit_files, encode_pages, fault_lines, redo_all, redo_file, restore_files,
+                            undo_records)
 from model.scripts import LONGEST_SCRIPT, run
 from model.spoiled_files import Given, mislead, spoil
 
@@ -47,11 +38,7 @@ CUTS_IN_A_RUN = 3
 MOST_PAGES_SPOILED = 1000
 MOST_SECONDS = 300
 MOST_SHOWN = 20  # of the differences
-LEAST_LOG = {"restore": 576, "audit": 448, "redo": 64}  # how many bytes a log has to keep of that of a chain
 MEMORY = "/dev/shm"  # a folder in memory, where the system has one
-
-
-SIZES = model_rows.SIZES | SAVEPOINT_SIZES
 
 
 class Failure(Exception):
@@ -91,21 +78,32 @@ class Checker:
             self.differences.append(f"{what}: {difference(given, wanted, text)}")
 
     def check_run(self, what, script, wanted):
-        """Runs the script, and leaves what it saves in the folder, but for the manifest."""
+        """Runs the script, and leaves what it saves in the folder: just its files, and no other one."""
         self.empty_folder()
         self.check(what, wanted.answer, [*run_words(script), "--save", "."], script.text)
         if self.program is None:
             return
         given = {path.name: path.read_bytes() for path in self.saved.iterdir()}
-        try:
-            given = without_manifest(given) if wanted.files else given
-        except WrongManifest as wrong:
-            self.differences.append(f"{what}: {wrong}")
-        (self.saved / "manifest").unlink(missing_ok=True)
         if given != wanted.files:
             self.differences.append(f"{what}: {difference_of_files(given, wanted.files)}")
             self.empty_folder()
             self.write(wanted.files)
+
+    def save_again(self, what, script, wanted):
+        """Runs the script once more, into the folder with what is there, which may be spoiled or of another script: each
+        of its files is written again, and all others stay."""
+        before = {path.name: path.read_bytes() for path in self.saved.iterdir()} if self.program else {}
+        self.check(f"{what}, saved again", wanted.answer, [*run_words(script), "--save", "."], script.text)
+        if self.program is None:
+            return
+        given = {path.name: path.read_bytes() for path in self.saved.iterdir()}
+        if given != before | wanted.files:
+            self.differences.append(f"{what}, saved again: {difference_of_files(given, before | wanted.files)}")
+
+    def change(self, files):
+        """Has the files in the folder changed to these, each in its place."""
+        if self.program is not None:
+            self.write({name: data for name, data in files.items() if (self.saved / name).read_bytes() != data})
 
     def check_files(self, what, given, files):
         """Restores and audits with changed files in the folder, and leaves it as it was, with these files."""
@@ -226,35 +224,7 @@ def check_spoiled(checker, name, ran, seed):
                             ran.files)
 
 
-# Worked rows
-
-def check_rows(checker):
-    saved = {row.name: check_row(checker, row) for row in [*model_rows.ROWS, *FRAME_ROWS]}
-    for row in model_file_rows.FILE_ROWS:
-        check_file_row(checker, row, saved[row.row])
-    for row in model_audit_rows.AUDIT_ROWS:
-        check_audit_row(checker, row, saved[row.row])
-    check_cuts(checker, saved[model_file_rows.CHAIN])
-
-
-def check_savepoint_rows(checker):
-    saved = {row.name: check_row(checker, row) for row in SAVEPOINT_ROWS}
-    for row in SAVEPOINT_FILE_ROWS:
-        check_file_row(checker, row, saved[row.row])
-    check_row(checker, many_comps(50))
-    for row in (MANY_COMPS, SAVEPOINT_ROOM) if checker.program else ():
-        checker.check(row.name, Answer(0, row.output()), run_words(Script(1, b"")), row.script())
-
-
-def check_growth_rows(checker):
-    saved = {row.name: check_row(checker, row) for row in [*GROWTH_ROWS, BY_ONE]}
-    for row in GROWTH_FILE_ROWS:
-        check_file_row(checker, row, saved[row.row])
-    for row in GROWTH_AUDIT_ROWS:
-        check_audit_row(checker, row, saved[row.row])
-    checker.check(f"{BY_ONE.name}, redo", answer_of(redo_file, saved[BY_ONE.name]["log"]), ["redo"],
-                  saved[BY_ONE.name]["log"])
-
+# What has a known answer without the model
 
 def check_ways(_):
     """The ways of the model to find a savepoint."""
@@ -264,120 +234,9 @@ def check_ways(_):
         raise Failure(f"the model, {different}") from None
 
 
-def check_row(checker, row):
-    """Compares the model with the row, and the program with the model. Gives the files that are saved."""
-    script, wanted = Script(row.pages, row.script(), row.frames), Answer(row.status, row.output())
-    ran = run_script(script)
-    if ran.answer != wanted:
-        raise Failure(f"the model, {row.name}: {difference(ran.answer, wanted, script.text)}")
-    check_bytes_of(row, ran.files)
-    checker.check_run(row.name, script, ran)
-    return ran.files
-
-
-def check_bytes_of(row, files):
-    for name, parts in row.wanted_files().items():
-        for at, data in parts:
-            if files[name][at:at + len(data)] != data:
-                raise Failure(f"the model, {row.name}: the file {name} differs at {at}")
-    for (of_row, name), size in SIZES.items():
-        if of_row == row.name and len(files[name]) != size:
-            raise Failure(f"the model, {row.name}: the file {name} has {len(files[name])} bytes in place of {size}")
-
-
-def check_file_row(checker, row, saved):
-    given = Given(row.files(saved), [])
-    given.log, given.master, *given.archives = row.names.split() if row.names != "redo" else ("log", "master")
-    wanted = Answer(row.status, row.volume(), b"") if row.status == 0 else \
-        Answer(row.status, error=f"{row.answer}\n".encode())
-    model = answer_of(redo_file, given.files["log"]) if row.names == "redo" else \
-        answer_of(restore_files, *given.contents())
-    if model != wanted:
-        raise Failure(f"the model, {row.name}: {difference(model, wanted)}")
-    checker.empty_folder()
-    checker.write(given.files)
-    if row.names == "redo":
-        checker.check(row.name, wanted, ["redo"], given.files["log"])
-    else:
-        checker.check(row.name, wanted, ["restore", *given.words()])
-
-
-def check_audit_row(checker, row, saved):
-    files = row.files(saved)
-    log, *archives = row.names.split()
-    wanted = Answer(row.status, f"{row.answer}\n".encode())
-    model = audit_files(files.get(log), [files.get(name) for name in archives])
-    if model != wanted:
-        raise Failure(f"the model, {row.name}: {difference(model, wanted)}")
-    checker.empty_folder()
-    checker.write(files)
-    checker.check(row.name, wanted, ["audit", log, *archives])
-
-
-def check_cuts(checker, saved):
-    """A chain of which one file is cut, at each length, with files of each format: it is restored and audited, and the
-    log redone."""
-    archives = ["copy-1", "copy-2", "copy-3"]
-    first = saved | {name: model_file_rows.of_first_format(saved[name]) for name in ["log", *archives]}
-    answers = []
-    for whole in (saved, first):
-        answers.append([])
-        for name in ["log", "master", *archives]:
-            for size in range(len(whole[name])):
-                checker.write(whole | {name: whole[name][:size]})
-                given = answers_of_cut(whole, name, size, archives)
-                answers[-1].append(given)
-                for words, answer in given.items():
-                    text = whole["log"][:size] if words == "redo" else b""
-                    checker.check(f"{name} cut to {size} bytes", answer, words.split(), text)
-    if answers[0] != answers[1]:
-        raise Failure("the model does not answer files of the first format as it answers those of the second")
-
-
-def answers_of_cut(whole, name, size, archives):
-    """The answers where this file is cut. It is refused, but for a log that ends with a whole record: that one is
-    redone, is sound where it has the last redo point, which is 384, and is restored where it has the checkpoint that the
-    master record names, whose end stands at 512."""
-    files = whole | {name: whole[name][:size]}
-    log, chain = files["log"], [files[archive] for archive in archives]
-    restored, audited = answer_of(restore_files, log, files["master"], chain), audit_files(log, chain)
-    given = {" ".join(["restore", "log", "master", *archives]): restored}
-    if name != "master":
-        given[" ".join(["audit", "log", *archives])] = audited
-    if name == "log":
-        given["redo"] = answer_of(redo_file, log)
-    for words, answer in given.items():
-        if (answer.status == 0) != (name == "log" and size % RECORD_SIZE == 0 and size >= LEAST_LOG[words.split()[0]]):
-            raise Failure(f"the model, {name} cut to {size} bytes: {words} gives {answer}")
-    if restored.status == 0:
-        pages, records = read_log(log)
-        if restored.output != encode_pages(redo_all(records + undo_records(records), pages)):
-            raise Failure(f"the model, a log cut to {size} bytes: it restores another volume than the log makes")
-    return given
-
-
-# What is long, and what has a known answer without the model
-
 def check_longest(checker):
-    row = model_rows.ROOM
-    checker.check(row.name, Answer(0, row.output()), run_words(Script(1, b"")), row.script())
     for size, wanted in ((LONGEST_SCRIPT, Answer(0)), (LONGEST_SCRIPT + 1, Answer(2, error=b"imgcopy: input\n"))):
         checker.check(f"a comment of {size} bytes", wanted, run_words(Script(1, b"")), b"#" * size)
-    checker.empty_folder()
-    checker.write(full_log())
-    checker.check("a log without room for undo", Answer(1, error=b"E8 LogFull\n"),
-                  ["restore", "log", "master", "copy-1"])
-
-
-def full_log():
-    """An idle checkpoint with its copy, and a transaction whose Adds leave no room for their undo."""
-    idle = next(row for row in model_rows.ROWS if row.name == "an unforced tail is lost")
-    files = run(b"ckpt\ngather\ngather\nendckpt\nfull\ntake 1 0\nseal 1\n", idle.pages).files
-    records = [Record(BEGIN, 1, lsn=lsn_of(2)).encode()]
-    add = Change(0, 0, ADD, 0, 1)
-    records += [Record(UPDATE, 1, lsn - RECORD_SIZE, add, lsn=lsn).encode()
-                for lsn in range(lsn_of(3), lsn_of(MOST_RECORDS), RECORD_SIZE)]
-    return files | {"log": files["log"] + b"".join(records)}
 
 
 def check_devices(checker):
@@ -435,8 +294,7 @@ def check_words(checker):
 
 # All of it
 
-CHECKS = {"rows": check_rows, "savepoint rows": check_savepoint_rows, "growth rows": check_growth_rows,
-          "ways": check_ways, "longest": check_longest, "devices": check_devices, "words": check_words}
+CHECKS = {"ways": check_ways, "longest": check_longest, "devices": check_devices, "words": check_words}
 
 
 def check_all(program, task):
@@ -479,7 +337,7 @@ def main(arguments):
     except (Failure, OSError) as failure:
         sys.exit(f"answers.py: {failure}")
     parts = ", ".join(f"{counts[name]} of {name}" for name in ("run", "redo", "restore", "audit", "words"))
-    print(f"ok model: {count} random scripts and all rows are as defined, by answers: {parts}")
+    print(f"ok model: {count} random scripts are as defined, by answers: {parts}")
 
 
 if __name__ == "__main__":

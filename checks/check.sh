@@ -110,8 +110,8 @@ check_commands() {
     check_fault "E33 ReadFault" "restore day/log none" "imgcopy: none (master record): No such file or directory*"
     # Files of another run are named, and the run goes well.
     : > "$work/day/copy-7"
-    "$program" run --force --save="$work/day" --pages=1 < /dev/null > "$work/out" 2> "$work/err" ||
-        fail "run --save --force: status $?"
+    "$program" run --save="$work/day" --pages=1 < /dev/null > "$work/out" 2> "$work/err" ||
+        fail "run --save into a folder of another run: status $?"
     [ "$(cat "$work/err")" = "imgcopy: $work/day: not of this run: copy-7" ] ||
         fail "run --save beside copy-7: standard error '$(cat "$work/err")'"
 }
@@ -131,9 +131,9 @@ check_audit() {
 
 # The day of the example, whose copies are sound; then with files left out, cut, or changed.
 check_audits() {
-    "$program" run --force --save="$work/day" --pages=3 < "$examples/day.script" > "$work/out" ||
+    "$program" run --save="$work/day" --pages=3 < "$examples/day.script" > "$work/out" 2> "$work/err" ||
         fail "run of the day: $?"
-    rm "$work/day/manifest" || fail "run of the day: there is no manifest"
+    [ ! -e "$work/day/manifest" ] || fail "run of the day: there is a manifest"
     check_audit 0 sound "" log copy-1 copy-2 copy-3
     check_audit 0 sound "" log copy-1
     check_audit 1 "E37 ChainBroken 0" "imgcopy: no image copy is named: *" log
@@ -270,6 +270,9 @@ check_refused "error: " "--pages <N>" "$run" run --frames=1
 check_refused "error: " "'--sync'" "$run" run --pages=1 --sync=1
 check_refused Play "65536 if not given" "$run" run --help
 check_refused Play --save "$run" run --help
+check_refused Play --manifest "$run" run --help
+check_refused "error: " "--save <FOLDER>" "$run" run --pages=1 --manifest
+check_refused "error: " "'--manifest'" --help run --pages=1 --save=. --manifest=x
 check_refused "error: " "--output <FILE>" "$redo" redo --force
 for words in "run --help" "redo --help" "restore --help"; do
     # shellcheck disable=SC2086  # the words are apart

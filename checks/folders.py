@@ -330,6 +330,10 @@ def spoiled(folders, folder):
     script = [*FIRST, "ckpt", *["gather"] * 6, "endckpt", "full", "take 1 0", "take 1 1", "take 1 2", "seal 1"]
     done = folders.run("run", "--pages", str(PAGES), "--save", day, lines=script)
     folders.wants("a save", done.returncode == 0, done)
+    folders.says("a save without a manifest", folders.run("verify", day), 0, "copy 1 sound\n",
+                 f"imgcopy: {day}: there is no manifest: the files are not compared")
+    done = folders.run("run", "--pages", str(PAGES), "--save", day, "--manifest", lines=script)
+    folders.wants("a save with a manifest", done.returncode == 0, done)
     done = folders.run("verify", day)
     is_all = sorted(done.stdout.decode().splitlines()) == ["copy 1 sound", "copy-1 sound", "log sound", "master sound"]
     folders.wants("files are verified", done.returncode == 0 and is_all, done)
@@ -390,7 +394,7 @@ def without_copies(folders):
     """Where a folder has no copy its log is read."""
     folder = folders.place / "nothing"
     folder.mkdir()
-    none = f"imgcopy: {folder}: there is no manifest"
+    none = f"imgcopy: {folder}: there is no manifest: the files are not compared"
     folders.says("an empty folder", folders.run("verify", folder), 2, "", none, "E33 ReadFault",
                  f"imgcopy: {folder}/log: {NOT_THERE}")
     (folder / "log").write_bytes(bytes(range(200)))

@@ -213,7 +213,7 @@ def check_ways(restorer, given):
     os.close(theirs)
     os.close(ours)
     restorer.see("a terminal", (done.returncode, done.stderr.decode()), (
-        2, "E29 WriteFault 0\nimgcopy: standard output is a terminal: name a file by -o, or redirect it\n"))
+        2, "E29 WriteFault 0\nimgcopy: standard output is a terminal: name a file by -o, redirect it, or add -o -\n"))
 
 
 def check_kills(restorer, given):

@@ -2,14 +2,15 @@
 
 usage: python3 -m checks.manifests PROGRAM [STEP]
 
-`run --save` saves two days, of one shape and with other numbers. Each manifest has to be the text that hashlib makes, and
-`sha256sum -c` has to accept it. Restores and audits of the unchanged files answer as they do without a manifest. Then a bit
-is flipped in each byte of each file, a file of the other day takes the place of the one of its name, the log is cut at each
-record, and it grows: nothing but a grown log may give a volume, and no audit may call another file sound. A manifest is cut,
-flipped, emptied, and taken from the other day. A smaller folder, whose files and manifest the model makes, has each bit of
-each file flipped; its manifest stands beside the files, or elsewhere and is told by --manifest. With STEP, 1 where none is
-told, each STEP-th byte or bit is flipped, and the manifest is cut at each STEP-th byte. Then
-`list` and `verify` are asked of changed files, and all four commands are given --no-manifest, and both options at once.
+`run --save --manifest` saves two days, of one shape and with other numbers; without --manifest there is none. Each manifest
+has to be the text that hashlib makes, and `sha256sum -c` has to accept it. Restores and audits of the unchanged files answer
+as they do without a manifest. Then a bit is flipped in each byte of each file, a file of the other day takes the place of the
+one of its name, the log is cut at each record, and it grows: nothing may give a volume but a log that has grown beside the
+manifest of a database, and no audit may call another file sound. A manifest is cut, flipped, emptied, and taken from the other
+day. A smaller folder, whose files and manifest the model makes, has each bit of each file flipped; its manifest stands beside
+the files, or elsewhere, as that of a database, and is told by --manifest. With STEP, 1 where none is told, each STEP-th byte or
+bit is flipped, and the manifest is cut at each STEP-th byte. Then `list` and `verify` are asked of changed files, and all four
+commands are given --no-manifest, and both options at once.
 
 `open` keeps a manifest: behind a clean closing it is that of hashlib but for the order of its lines, and `sha256sum -c`
 accepts it; so it is once a line that put a file in place is answered, and the next one. Each bit of the log is flipped, or
@@ -41,10 +42,10 @@ CHAIN = ("copy-1", "copy-2", "copy-3")
 FILES = ("log", "master", *CHAIN)
 OTHER = "is not the file that the manifest names"
 UNNAMED = "the manifest beside it does not name it"
-BARE = "imgcopy: no manifest stands beside the files: they are not compared\n"
 WAY_ON = "--no-manifest"
 THERE = f"put the files' manifest there, or go on by {WAY_ON}"
 BOTH = "error: the argument '--manifest <FILE>' cannot be used with '--no-manifest'\n"
+NO_FOLDER = "error: --manifest needs the argument:\n  --save <FOLDER>\n"
 MOST_SECONDS = 60
 SMALL_CHAIN = ("copy-1", "copy-2")
 SMALL = """ckpt; gather; gather; endckpt; full; take 1 0; seal 1; begin; set 1 0 0 5; commit 1; wbegin 0; wend 0
@@ -113,15 +114,18 @@ def day_of(folder, script):
     folder.fill({})
     done = folder.run("run", "--pages", PAGES, "--save", ".", data=script)
     see("run --save", done, 0, done.stdout, "")
-    files = {path.name: path.read_bytes() for path in folder.place.iterdir()}
-    if set(without_manifest(files)) != set(FILES):
-        raise Failure(f"the save leaves {sorted(files)}")
+    bare = all_of(folder)
+    done = folder.run("run", "--pages", PAGES, "--save", ".", "--manifest", data=script)
+    see("run --save --manifest", done, 0, done.stdout, "")
+    files = all_of(folder)
+    if set(bare) != set(FILES) or without_manifest(files) != bare:
+        raise Failure(f"the saves leave {sorted(bare)} and {sorted(files)}")
     summed = subprocess.run(["sha256sum", "-c", "--strict", "manifest"], cwd=folder.place, capture_output=True, check=False)
-    if summed.returncode or summed.stdout.decode().splitlines() != [f"{name}: OK" for name in FILES[1:]]:
+    if summed.returncode or summed.stdout.decode().splitlines() != [f"{name}: OK" for name in FILES]:
         raise Failure(f"sha256sum -c: status {summed.returncode}, {summed.stdout!r}, {summed.stderr!r}")
-    (folder.place / "manifest").unlink()
+    folder.fill(bare)
     done = folder.restore()
-    see("a restore without a manifest", done, 0, done.stdout, BARE)
+    see("a restore without a manifest", done, 0, done.stdout, "")
     see("the same by --no-manifest", folder.restore("--no-manifest"), 0, done.stdout, "")
     see("an audit without a manifest", folder.audit(), 0, b"sound\n", "")
     folder.fill(files)
@@ -154,7 +158,8 @@ def check_others(folder, files, others, *options):
 
 
 def check_logs(folder, files, volume):
-    """The log is cut at each record, and at bytes between, and then it grows by what undo appends."""
+    """The log is cut at each record, and at bytes between, and then it grows by what undo appends, as that of a database
+    may."""
     for end in range(RECORD, len(files["log"]), RECORD):
         for cut in (end, end - 1):
             folder.put("log", files["log"][:cut])
@@ -166,7 +171,11 @@ def check_logs(folder, files, volume):
         raise Failure(f"restore --log-out: status {done.returncode}, {done.stderr[:200]!r}")
     for end in range(len(files["log"]) + RECORD, len(grown) + 1, RECORD):
         folder.put("log", grown[:end])
-        folder.taken(f"the log has grown to {end}", volume)
+        folder.refused(f"the log of saved files has grown to {end}", is_other=True)
+    folder.put("manifest", of_database(files))
+    for end in range(len(files["log"]), len(grown) + 1, RECORD):
+        folder.put("log", grown[:end])
+        folder.taken(f"the log of a database has grown to {end}", volume)
     changed = bytearray(grown)
     changed[200] ^= 1
     folder.put("log", changed)
@@ -175,21 +184,28 @@ def check_logs(folder, files, volume):
 
 
 def check_grown_master(folder, files):
-    """A database that is opened puts another master record in place, behind new records of the log."""
+    """A database that is opened puts another master record in place, behind new records of the log. Saved files that are
+    opened are those of a database then, and have its manifest."""
     done = folder.run("open", ".", data=b"ckpt\n" + b"gather\n" * int(PAGES) + b"endckpt\n")
-    if (folder.place / "master").read_bytes() == files["master"]:
-        raise Failure(f"open: status {done.returncode}, and no master record, {done.stdout[-200:]!r}")
-    folder.put("manifest", files["manifest"])
+    after = all_of(folder)
+    if after["master"] == files["master"] or not is_manifest_of(after["manifest"], named_in(after)):
+        raise Failure(f"open: status {done.returncode}, and no master record, or another manifest, {done.stdout[-200:]!r}")
+    folder.put("manifest", of_database(files))
     done = folder.restore()
     if done.returncode or done.stderr:
         raise Failure(f"behind an open database a restore ends with status {done.returncode}, {done.stderr[:200]!r}")
     folder.fill(files)
 
 
+def of_database(files):
+    """The manifest of these files, as that of a database, whose log grows."""
+    return manifest_of(without_manifest(files), head_of(files["manifest"]), grows=True)
+
+
 def check_manifests(folder, files, others, volume, step):
     manifest = files["manifest"]
     for text, line in ((b"", 1), (manifest[:-1], None), (manifest[:20], 1), (b"# imgcopy manifest 2" + manifest[20:], 1),
-                       (manifest + b"\n", None), (manifest + manifest.splitlines(True)[1], None), (b"\xff" * 90, 1)):
+                       (manifest + b"\n", None), (manifest + b"".join(manifest.splitlines(True)[1:3]), None), (b"\xff" * 90, 1)):
         folder.put("manifest", text)
         line = line or text.count(b"\n") + (not text.endswith(b"\n"))
         for done in (folder.restore(), folder.audit()):
@@ -217,7 +233,7 @@ def check_manifests(folder, files, others, volume, step):
     folder.refused("the manifest is of the other day", is_other=True)
     folder.taken("the manifest of the other day is left aside", volume, "--no-manifest")
     (folder.place / "manifest").unlink()
-    folder.taken("the manifest is moved away", volume, told=BARE)
+    folder.taken("the manifest is moved away", volume)
     check_irregular(folder, files, volume)
     folder.fill(files)
 
@@ -366,7 +382,7 @@ def check_verify(folder, files, others):
             raise Failure(f"verify, {name} of the other day: status {done.returncode}, {done.stdout[:200]!r}")
         folder.put(name, files[name])
     (folder.place / "manifest").rename(folder.place / "moved")
-    see("verify without a manifest", folder.run("verify", "."), 0, copies, "imgcopy: .: there is no manifest\n")
+    see("verify without a manifest", folder.run("verify", "."), 0, copies, "imgcopy: .: there is no manifest: the files are not compared\n")
     see("verify by a manifest that is told", folder.run("verify", "--manifest", "moved", "."), 0, sound, "")
     (folder.place / "copy-3").unlink()
     done = folder.run("verify", "--manifest", "moved", ".")
@@ -377,14 +393,26 @@ def check_verify(folder, files, others):
 
 
 def check_again(folder, files, others, script):
-    """A save over another one renews the manifest."""
-    folder.fill(others)
-    done = folder.run("run", "--pages", PAGES, "--save", ".", "--force", data=script)
-    given = {path.name: path.read_bytes() for path in folder.place.iterdir()}
-    if done.returncode or given != {**files, "manifest": manifest_of(files, head_of(given["manifest"]))}:
-        raise Failure(f"a save over another one: status {done.returncode}, {done.stderr[:200]!r}")
-    if len({head_of(it["manifest"]) for it in (files, others, given)}) != 3:
-        raise Failure("two runs have one name")
+    """A save over another one renews the manifest that stands there, whether it is asked for one or not; and one of a
+    database is renewed by --force alone."""
+    kept = {**others, "manifest": of_database(others)}
+    for options, before, is_done in (([], others, True), (["--manifest"], others, True), (["--force"], others, True),
+                                     (["--force"], kept, True), ([], kept, False), (["--manifest"], kept, False)):
+        folder.fill(before)
+        done = folder.run("run", "--pages", PAGES, "--save", ".", *options, data=script)
+        given, what = all_of(folder), f"a save {options} over another one"
+        if not is_done:
+            if done.returncode != 2 or done.stdout or given != before:
+                raise Failure(f"{what}, in the folder of a database: status {done.returncode}, {done.stderr[:200]!r}")
+            continue
+        if done.returncode or given != {**files, "manifest": manifest_of(without_manifest(files), head_of(given["manifest"]))}:
+            raise Failure(f"{what}: status {done.returncode}, {done.stderr[:200]!r}")
+        if len({head_of(it["manifest"]) for it in (files, others, given)}) != 3:
+            raise Failure("two runs have one name")
+    folder.fill({})
+    done = folder.run("run", "--pages", PAGES, "--manifest", data=script)
+    if done.returncode != 2 or done.stdout or not done.stderr.decode().startswith(NO_FOLDER):
+        raise Failure(f"run --manifest without --save: status {done.returncode}, {done.stderr[:200]!r}")
     folder.fill(files)
 
 
@@ -614,7 +642,7 @@ def check_header_alone(folder):
     for pages, first in ((1, b"new: 1 page\n"), (2, b"new: 2 pages\n")):
         for way in ("closed", "killed"):
             what = f"a manifest that names a header alone, {pages} pages, {way}"
-            folder.fill({"manifest": manifest_of({"log": encode_header(1)}, SMALL_HEAD)})
+            folder.fill({"manifest": manifest_of({"log": encode_header(1)}, SMALL_HEAD, grows=True)})
             if way == "closed":
                 see(what, folder.run("open", "--pages", str(pages), "."), 0, first, "")
             elif killed(folder, [], "--pages", str(pages)).stdout != first:
@@ -689,7 +717,7 @@ def check_bits(folder, program, step):
         raise Failure(f"the model saves {sorted(files)}")
     manifest = manifest_of(files, SMALL_HEAD)
     elsewhere = folder.place.with_name("small sums")
-    elsewhere.write_bytes(manifest)
+    elsewhere.write_bytes(manifest_of(files, SMALL_HEAD, grows=True))
     words = ("log", "master", *SMALL_CHAIN)
     for what, all_files, options, each in (("beside", files | {"manifest": manifest}, (), step),
                                            ("told", files, ("--manifest", str(elsewhere)), 8 * step + 1)):

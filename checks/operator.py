@@ -13,6 +13,7 @@ import shutil
 import subprocess
 import sys
 import tempfile
+import tty
 from pathlib import Path
 
 EXAMPLES = Path(__file__).resolve().parent.parent / "examples"
@@ -120,14 +121,45 @@ def check_output(program, names):
 
 
 def check_terminal(program, names):
-    for words in (["redo"], ["restore", *names]):
-        ours, theirs = pty.openpty()
-        done = subprocess.run([program.path, *words], stdin=subprocess.DEVNULL, stdout=theirs, stderr=subprocess.PIPE,
-                              timeout=MOST_SECONDS, cwd=program.folder)
-        os.close(theirs)
-        os.close(ours)
-        program.check(done, f"{words[0]} to a terminal", 2, None,
-                      "E29 WriteFault 0\nimgcopy: standard output is a terminal: name a file by -o, or redirect it\n")
+    """A terminal gets a volume where the words say it, and none else. In a pipe these words change nothing."""
+    log = (program.folder / "log").read_bytes()
+    for words, data in ((["redo"], log), (["redo", "--until=64"], log), (["restore", *names], b""),
+                        (["restore", "."], b""), (["restore", "--log-out=restored", *names], b"")):
+        told = program.run(*words, data=data)
+        (program.folder / "restored").unlink(missing_ok=True)
+        done, shown = at_terminal(program, words, data)
+        program.check(done, f"{words} to a terminal", 2, None,
+                      "E29 WriteFault 0\nimgcopy: standard output is a terminal: name a file by -o, redirect it, or add -o -\n")
+        if shown or (program.folder / "restored").exists():
+            raise Failure(f"{words} to a terminal: {shown[:60]!r}, or a log")
+        for option in (["-o", "-"], ["-o-"], ["--output=-"], ["-o", "-", "--force"]):
+            done, shown = at_terminal(program, [*words, *option], data)
+            if (done.returncode, shown, done.stderr) != (0, told.stdout, told.stderr):
+                raise Failure(f"{words} {option} to a terminal: status {done.returncode}, {shown[:60]!r}, {done.stderr[:200]!r}")
+            (program.folder / "restored").unlink(missing_ok=True)
+            program.check(program.run(*words, *option, data=data), f"{words} {option}", 0, told.stdout, told.stderr.decode())
+            (program.folder / "restored").unlink(missing_ok=True)
+            program.checks += 1
+    if (program.folder / "-").exists():
+        raise Failure("a file has the name of standard output")
+    program.check(program.run("redo", "-o", "./-", data=log), "redo -o ./-", 0, b"", "")
+    (program.folder / "-").unlink()
+
+
+def at_terminal(program, words, data):
+    """How a command ends whose standard output is a terminal, and what that shows."""
+    ours, theirs = pty.openpty()
+    tty.setraw(theirs)
+    done = subprocess.run([program.path, *words], input=data, stdout=theirs, stderr=subprocess.PIPE, timeout=MOST_SECONDS,
+                          cwd=program.folder)
+    os.set_blocking(ours, False)
+    try:
+        shown = os.read(ours, 65_536)
+    except BlockingIOError:
+        shown = b""
+    os.close(theirs)
+    os.close(ours)
+    return done, shown
 
 
 def check_audits(program):
@@ -160,7 +192,6 @@ def check_many_pages(program):
     folder = program.folder / "many"
     folder.mkdir()
     program.check(program.run("run", "--strict", "--pages", pages, "--save", "many", data=text), "many pages", 0)
-    (program.folder / "many" / "manifest").unlink()
     copy = bytearray((folder / "copy-1").read_bytes())
     for page in range(pages):
         copy[HEADER + PAGE * page + 16] ^= 1
@@ -273,7 +304,6 @@ def main(arguments):
             check_strict(program, day)
             check_output(program, names)
             check_terminal(program, names)
-            (Path(place) / "manifest").unlink()
             check_audits(program)
             check_many_pages(program)
             check_reasons(program)

@@ -32,7 +32,7 @@ from pathlib import Path
 from typing import NamedTuple
 
 from checks.bank_calls import Disk, Trace
-from checks.manifest_text import NAME, WrongManifest, misnamed, without_manifest
+from checks.manifest_text import NAME, WrongManifest, manifest_of, misnamed, without_manifest
 from checks.unsaved import script_of, text_of
 
 PAGES, DRAWS = 24, 6
@@ -40,6 +40,7 @@ MOST_SECONDS = 60
 UNFINISHED = ".unfinished-"
 ERROR, WHY = 5, "Input/output error (os error 5)"
 SAVED = ("log", "master", "copy-1", "copy-2", "copy-3")
+OLD_HEAD = b"# imgcopy manifest 1 database 00112233445566778899aabbccddeeff\n"
 NEW_MANIFEST = b"the manifest of the saved files"
 
 
@@ -115,9 +116,9 @@ class Checker:
         self.plain("restore", "-o", place / "volume", "--log-out", place / "after", *files)
         self.new["l"] = (place / "after").read_bytes()
         self.cases = [
-            Case("run --save", ["run", "--pages", PAGES, "--force", "--save", self.top], self.script,
-                 [*SAVED, NAME], False,
-                 lambda path: f"{self.top}/{path}" if path != "." else f"{self.top}"),
+            Case("run --save", ["run", "--pages", PAGES, "--save", self.top], self.script, [*SAVED], False, self.saved),
+            Case("run --save --manifest", ["run", "--pages", PAGES, "--manifest", "--save", self.top], self.script,
+                 [*SAVED, NAME], False, self.saved),
             Case("redo -o", ["redo", "-o", self.top / "r"], log, ["r"], False, self.named("r")),
             Case("restore -o", ["restore", "-o", self.top / "v", *files], b"", ["v"], False, self.named("v")),
             Case("restore --log-out", ["restore", "--log-out", self.top / "l", *files], b"", ["l"], False, self.named("l")),
@@ -125,6 +126,9 @@ class Checker:
                  ["l", "v"], True, None),
             Case("restore -o --log-out into two folders",
                  ["restore", "-o", self.top / "a/v", "--log-out", self.top / "b/l", *files], b"", ["b/l", "a/v"], True, None)]
+
+    def saved(self, path):
+        return f"{self.top}/{path}" if path != "." else f"{self.top}"
 
     def named(self, only):
         return lambda path: f"{self.top}/{only}"
@@ -149,7 +153,9 @@ class Checker:
 
     @staticmethod
     def old(path):
-        return f"an older {path}".encode()
+        """An older manifest is one of saved files."""
+        data = f"an older {path}".encode()
+        return manifest_of({"log": data}, OLD_HEAD) if path == NAME else data
 
     def wanted(self, path):
         return self.new[os.path.basename(path)]
@@ -302,7 +308,7 @@ def label_of(checker, case, events, names, place):
 
 
 def lines_of_new(checker, case, new):
-    if case.what != "run --save":
+    if not case.what.startswith("run --save"):
         return [f"imgcopy: {checker.top}/{path}: this has its new file already" for path in new]
     return [f"imgcopy: {checker.top}: " + ("these have their new file already: " + " ".join(new) if new
                                            else "no name has its new file")]

@@ -3,8 +3,9 @@
 usage: python3 -m checks.outputs PROGRAM
 
 No output takes the place of a log, a master record, a copy or an input of its command unless `--force` says so: `redo -o`,
-`restore -o`, `restore --log-out` and `run --save` are refused there, name the file and what it is, and change nothing, be it
-there before the command or put there meanwhile. With `--force` they replace it, but no file that another one has locked.
+`restore -o` and `restore --log-out` are refused there, name the file and what it is, and change nothing, be it there before
+the command or put there meanwhile. With `--force` they replace it, but no file that another one has locked. `run --save`
+writes its files over those of another run, and is refused in the folder of a database, before it plays its script.
 Where another one has the folder, as an open database has, they are refused; many of them in one folder do not stand in each
 other's way. What a killed one left is told by the next one, and stays; what a living one writes is not told, nor is an
 input of such a name. No output gets the name of an unfinished file. Then audits read pipes, and names with escape sequences
@@ -22,12 +23,17 @@ import time
 from contextlib import contextmanager
 from pathlib import Path
 
+from checks.manifest_text import NAME, manifest_of, without_manifest
+
 EXAMPLES = Path(__file__).resolve().parent.parent / "examples"
 FILES = ("log", "master", "copy-1", "copy-2", "copy-3")
 MOST_SECONDS = 60
 AT_ONCE = 24
 VOLUME = b"\0\0\0\0\1\0\0\0" + bytes(504)
 OPEN = "another one has this folder open"
+HEAD = b"# imgcopy manifest 1 database 00112233445566778899aabbccddeeff\n"
+OF_DATABASE = "this is a database's folder: name another one, or add --force"
+MAY_BE = "this may be the manifest of a database: name another folder, or add --force"
 
 
 class Failure(Exception):
@@ -58,7 +64,9 @@ class Writer:
         self.day.mkdir()
         subprocess.run([program, "run", "--pages", "3", "--save", str(self.day)], input=self.script, check=True,
                        capture_output=True, timeout=MOST_SECONDS)
-        self.log = (self.day / "log").read_bytes()
+        self.files = {name: (self.day / name).read_bytes() for name in FILES}
+        self.log = self.files["log"]
+        self.manifest = manifest_of(self.files, HEAD)
         self.fill()
         self.commands = {"redo -o": (["redo", "-o"], [], self.log, self.run("redo", data=self.log).stdout),
                          "restore -o": (["restore", "-o"], FILES, b"", self.run("restore", *FILES).stdout),
@@ -106,7 +114,7 @@ def standing(writer):
                 ("v", b"AIMGLOG9", "this is a log"), ("log", writer.log[:64], "this is a log"),
                 ("copy-1", writer.log, "this is a log"), ("v", master, "this is a master record"),
                 ("v", archive, "this is an image copy"), ("log", archive[:100], "this is an image copy"),
-                ("v", (writer.day / "manifest").read_bytes(), "this is a manifest"),
+                ("v", writer.manifest, "this is a manifest"),
                 ("manifest", b"# imgcopy manifest 9", "this is a manifest"))
     for data in (b"", b"old", b"AIMGLO", bytes(8192)):
         yield from (("closed", data, "this may be the note of a closing, by its name"),
@@ -181,40 +189,93 @@ def save(writer, *options):
     return writer.run("run", "--pages", 3, "--save", "out", *options, data=writer.script)
 
 
+def see_saved(writer, what, done, told, others, with_manifest):
+    """The files of the day are there, a manifest of them where one is to be, and these others as they were."""
+    writer.see(what, done, 0, told)
+    given = {path.name: path.read_bytes() for path in (writer.folder / "out").iterdir() if path.is_file()}
+    if (NAME in given) != with_manifest:
+        raise Failure(f"{what}: {sorted(given)}")
+    if with_manifest:
+        text = given.pop(NAME)
+        without_manifest({**writer.files, NAME: text})
+        if text.startswith(HEAD):
+            raise Failure(f"{what}: the manifest has the older name")
+    if given != others | writer.files:
+        raise Failure(f"{what}: {sorted(given)}, or other bytes")
+
+
 def check_saves(writer):
-    for name, data in (*((name, (writer.day / name).read_bytes()) for name in FILES), ("log", b""), ("master", b"x"),
-                       ("copy-1024", b"x"), ("copy-9", writer.log), ("manifest", (writer.day / "manifest").read_bytes()),
-                       ("manifest", b"x")):
+    """What stands there is no database's: the files are written, and what is of another run is told."""
+    for name, data in ((None, b""), *writer.files.items(), ("log", b""), ("log", b"a text"), ("master", b"x"), ("copy-3", VOLUME),
+                       ("copy-1024", b"x"), ("copy-9", writer.log), ("copy-0", b"x"), ("copy-1025", b"x"), ("log.old", writer.log),
+                       ("manifest", writer.manifest), ("manifest", b"")):
+        for options in ([], ["--manifest"], ["--force"], ["--manifest", "--force"]):
+            writer.fill()
+            if name is not None:
+                (writer.folder / "out" / name).write_bytes(data)
+            told = f"imgcopy: out: not of this run: {name}\n" if name in ("copy-9", "copy-1024") else ""
+            see_saved(writer, f"run --save {options} beside {name}", save(writer, *options), told,
+                      {name: data} if name not in (None, NAME) else {}, "--manifest" in options or name == NAME)
+    # An older run that had more: its master record and its copies stay, and are told.
+    writer.fill()
+    writer.run("run", "--pages", 3, "--save", "out", "--manifest", data=writer.script)
+    done = writer.run("run", "--pages", 2, "--save", "out", data=b"begin\n")
+    writer.see("a smaller run behind another one", done, 0, "imgcopy: out: not of this run: master copy-1 copy-2 copy-3\n")
+    done = writer.run("restore", "out/log", "out/master", "out/copy-1")
+    writer.see("a restore of its files", done, 2, "E35 BadChain 1024\nimgcopy: out/master (master record): the log has no complete"
+               " checkpoint from 1024 to 1088\n")
+
+
+def databases(writer):
+    """What says that a folder is a database's, how it is made there, and why a save is refused then."""
+    grows = manifest_of(writer.files, HEAD, grows=True)
+    yield from (("volume", lambda path: path.write_bytes(VOLUME), OF_DATABASE),
+                ("volume", lambda path: path.symlink_to("nowhere"), OF_DATABASE),
+                ("closed", lambda path: path.write_bytes(b"640\n"), OF_DATABASE),
+                ("manifest", lambda path: path.write_bytes(grows), OF_DATABASE),
+                ("manifest", lambda path: path.write_bytes(HEAD), OF_DATABASE),
+                ("manifest", lambda path: path.write_bytes(b"x"), MAY_BE),
+                ("manifest", lambda path: path.write_bytes(writer.manifest[:-1]), MAY_BE),
+                ("manifest", lambda path: path.symlink_to("nowhere"), MAY_BE))
+
+
+def check_databases(writer):
+    for name, make, why in databases(writer):
+        for options in ([], ["--manifest"]):
+            writer.fill()
+            make(writer.folder / "out" / name)
+            before, done = content(writer.folder), save(writer, *options)
+            writer.see(f"run --save {options} beside {name}", done, 2, f"E29 WriteFault 0\nimgcopy: out/{name}: {why}\n", before)
+            if done.stdout:
+                raise Failure(f"run --save beside {name}: the script is played")
+            others = {name: data for name, data in ((path.name, path.read_bytes()) for path in (writer.folder / "out").iterdir()
+                                                    if path.is_file()) if name != NAME}
+            see_saved(writer, f"run --save --force {options} beside {name}", save(writer, "--force", *options), "", others,
+                      name == NAME or "--manifest" in options)
+    for make in (os.mkdir, os.mkfifo):
         writer.fill()
-        (writer.folder / "out" / name).write_bytes(data)
-        done, before = save(writer), content(writer.folder)
-        if done.stdout or b": --force replaces it\n" not in done.stderr or f"out/{name}: this ".encode() not in done.stderr:
-            raise Failure(f"run --save beside {name}: {done.stdout[:60]!r}, {done.stderr[:200]!r}")
-        writer.see(f"run --save beside {name}", done, 2, done.stderr.decode(), before)
-        done = save(writer, "--force")
-        if done.returncode or {f"out/{name}": (writer.day / name).read_bytes() for name in FILES}.items() - \
-                content(writer.folder).items():
-            raise Failure(f"run --save --force beside {name}: status {done.returncode}, or other files")
-    for name, data in (("volume", VOLUME), ("copy-0", b"x"), ("copy-1025", b"x"), ("log.old", writer.log),
-                       ("manifest", b"")):
-        writer.fill()
-        (writer.folder / "out" / name).write_bytes(data)
-        writer.see(f"run --save beside {name}", save(writer), 0, "")
+        make(writer.folder / "out" / "manifest")
+        done = save(writer)
+        writer.see("run --save beside no regular manifest", done, 2, f"E29 WriteFault 0\nimgcopy: out/manifest: {MAY_BE}\n",
+                   content(writer.folder))
 
 
 def check_meanwhile(writer):
-    """A log is put there while the script is played, or while the volume is made."""
-    for name in ("log", "master", "copy-2"):
+    """A log is put there while the script is played, or while the volume is made; or a database."""
+    for name, make, why in ((None, lambda path: None, None), *databases(writer)):
         writer.fill()
         child = writer.start("run", "--pages", 3, "--save", "out")
         child.stdin.write(writer.script[:100])
         child.stdin.flush()
         time.sleep(0.2)
-        (writer.folder / "out" / name).write_bytes((writer.day / name).read_bytes())
+        (writer.folder / "out" / "copy-2").write_bytes(writer.log)
+        make(writer.folder / "out" / (name or "none"))
         before = content(writer.folder)
         _, child.stderr = child.communicate(writer.script[100:], timeout=MOST_SECONDS)
-        what = {"log": "a log", "master": "a master record", "copy-2": "an image copy"}[name]
-        writer.see_kept(f"{name} comes while a run plays", child, f"out/{name}", f"this is {what}", before)
+        if name is None:
+            see_saved(writer, "a copy comes while a run plays", child, "", {}, False)
+        else:
+            writer.see(f"{name} comes while a run plays", child, 2, f"E29 WriteFault 0\nimgcopy: out/{name}: {why}\n", before)
     writer.fill()
     child = writer.start("redo", "-o", "out/v")
     child.stdin.write(writer.log[:100])
@@ -272,8 +333,7 @@ def check_locks(writer):
     for name in writer.commands:
         writer.see_kept(f"{name} over the log of a closed database", writer.write(name, "out/log"), "out/log",
                         "this is a log", before)
-    done = writer.run("run", "--pages", 3, "--save", "out", data=writer.script)
-    writer.see_kept("run --save over a closed database", done, "out/log", "this is a log", before)
+    writer.see("run --save over a closed database", save(writer), 2, f"E29 WriteFault 0\nimgcopy: out/volume: {OF_DATABASE}\n", before)
     check_links(writer)
 
 
@@ -288,9 +348,20 @@ def check_links(writer):
         for name in writer.commands:
             writer.see(f"{name} over a log that is open", writer.write(name, "out/log", "--force"), 2,
                        "E29 WriteFault 0\nimgcopy: out/log: another one has this log open\n", before)
-        done = save(writer, "--force")
-        writer.see("run --save over a log that is open", done, 2, "E29 WriteFault 0\nimgcopy: out/log: another one has this"
-                   " log open\nimgcopy: out: no name has its new file\n", before)
+        for name in ("log", "another name of it"):
+            (writer.folder / "out" / "log").unlink()
+            if name == "log":
+                (writer.folder / "out" / "log").hardlink_to(elsewhere)
+            else:
+                (writer.folder / "out" / "log").symlink_to(elsewhere)
+            for options in ([], ["--force"]):
+                done = save(writer, *options)
+                writer.see(f"run --save {options} over {name} that is open", done, 2,
+                           "E29 WriteFault 0\nimgcopy: out/log: another one has this log open\n", before)
+                if done.stdout:
+                    raise Failure(f"run --save over {name} that is open: the script is played")
+        (writer.folder / "out" / "log").unlink()
+        (writer.folder / "out" / "log").hardlink_to(elsewhere)
     writer.see("restore -o over a log that was open", writer.write("restore -o", "out/log", "--force"), 0, "")
 
 
@@ -361,10 +432,10 @@ def check_leftovers(writer):
     writer.see("run --save beside one that lives", done, 0, "")
     child.send_signal(signal.SIGKILL)
     child.communicate(timeout=MOST_SECONDS)
-    done = writer.run("run", "--pages", 3, "--save", "out", "--force", data=writer.script)
+    done = writer.run("run", "--pages", 3, "--save", "out", data=writer.script)
     writer.see("run --save behind one that was killed", done, 0, left("out/v.unfinished-1"))
     writer.see("redo -o behind one that was killed", writer.write("redo -o", "out/v"), 0, left("out/v.unfinished-1"))
-    if sorted(content(writer.folder / "out")) != sorted([*FILES, "manifest", "v", "v.unfinished-1"]):
+    if sorted(content(writer.folder / "out")) != sorted([*FILES, "v", "v.unfinished-1"]):
         raise Failure(f"what is left: {sorted(content(writer.folder / 'out'))}")
 
 
@@ -380,7 +451,7 @@ def check_left_inputs(writer):
         (writer.folder / "db.unfinished-1").rename(writer.folder / "away" / "log")
         (writer.folder / "db.unfinished-1").hardlink_to(writer.folder / "away" / "log")
         before = content(writer.folder)
-        done = writer.run("restore", "--no-manifest", option, "db", "away/log", "db.unfinished-4", "db.unfinished-2", "copy-2", "copy-3")
+        done = writer.run("restore", option, "db", "away/log", "db.unfinished-4", "db.unfinished-2", "copy-2", "copy-3")
         see_left(writer, f"restore {option} beside its inputs", done, ("./db.unfinished-5",), before | {"db": made})
     for force in ([], ["--force"]):
         writer.fill()
@@ -443,13 +514,14 @@ def check_names(writer):
     folder = writer.folder / name
     folder.mkdir()
     (folder / "log").write_bytes(writer.log)
+    (folder / "closed").write_bytes(b"640\n")
     missing = "No such file or directory (os error 2)"
     for words, wanted in ((["redo", "-o", f"{name}/log"], f"{shown}/log: this is a log: --force replaces it"),
                           (["redo", "-o", f"no{name}/log"], f"no{shown}: {missing}"),
                           (["restore", f"no{name}", "master", "copy-1"], f"no{shown} (log): {missing}"),
                           (["audit", "log", f"no{name}"], f"no{shown} (image copy): {missing}"),
                           (["show", f"no{name}"], f"no{shown}: {missing}"), (["list", f"no{name}"], f"no{shown}: {missing}"),
-                          (["run", "--pages", 1, "--save", name], f"{shown}/log: this is a log: --force replaces it"),
+                          (["run", "--pages", 1, "--save", name], f"{shown}/closed: {OF_DATABASE}"),
                           (["run", "--pages", 1, "--save", f"no{name}"], f"no{shown}: {missing}")):
         said = writer.run(*words).stderr.decode()
         if f"imgcopy: {wanted}\n" not in said or "\x1b" in said:
@@ -465,7 +537,7 @@ def check_names(writer):
         raise Failure("list: an escape sequence is told")
 
 
-CHECKS = (check_kept, check_inputs, check_saves, check_meanwhile, check_locks, check_at_once, check_leftovers,
+CHECKS = (check_kept, check_inputs, check_saves, check_databases, check_meanwhile, check_locks, check_at_once, check_leftovers,
           check_left_inputs, check_unfinished_names, check_audits, check_names)
 
 

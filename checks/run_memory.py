@@ -3,10 +3,11 @@
 usage: python3 -m checks.run_memory PROGRAM LIBRARY
 
 LIBRARY is refuse_memory.rs, built as a library for LD_PRELOAD. Each script of memory_scripts.py is run without its
-first allocation, then without its second, and so on until none is left to refuse. `ends` has all that may come of it:
-nothing is played; or one call is refused, and everything behind it is as if that call had not been made; or not all is
-saved; or the last restore is refused. Where all is saved, each copy is restored with each part of the log that a crash
-may leave. The allocations of a `restore` are refused in turn too, and those of runs whose script is bad.
+first allocation, then without its second, and so on until none is left to refuse; every other script with --manifest.
+`ends` has all that may come of it: nothing is played; or one call is refused, and everything behind it is as if that call
+had not been made; or not all is saved; or the last restore is refused. Where all is saved, each copy is restored with each
+part of the log that a crash may leave. The allocations of a `restore` are refused in turn too, and those of runs whose
+script is bad.
 """
 
 import os
@@ -58,7 +59,7 @@ def ends(script):
 
 
 def parts(files):
-    """The files before one that is not there, or is empty. The last one is their manifest."""
+    """The files before one that is not there, or is empty. The last one may be their manifest."""
     saved = {}
     for name in files:
         yield dict(saved)
@@ -67,17 +68,17 @@ def parts(files):
     yield saved
 
 
-def refuse_run(program, library, script):
+def refuse_run(program, library, script, options):
     """How often each end came, and what the runs left whose files are all there, each thing once."""
     allowed, counts, left = list(ends(script)), Counter(), {}
     with tempfile.TemporaryDirectory() as folder:
         source, into = Path(folder, "script"), Path(folder, "into")
         source.write_bytes(script.text())
         into.mkdir()
-        case = Case(["run", "--pages", str(script.pages), "--save", str(into)], source, ())
+        case = Case(["run", "--pages", str(script.pages), "--save", str(into), *options], source, ())
         for number, answer, refused in refuse_each(program, library, case):
-            given = Answer(*answer), marked(take_files(into))
-            end = next((end for end in allowed if (end[1].answer, all_files(end[1])) == given), None)
+            given = Answer(*answer), marked(take_files(into), options)
+            end = next((end for end in allowed if (end[1].answer, all_files(end[1], options)) == given), None)
             if end is None or not refused and end[0] != AS_EVER:
                 raise Failure(f"{script.name}, without allocation {number}: {describe(script, *given)}")
             name, ran = end
@@ -87,15 +88,15 @@ def refuse_run(program, library, script):
     return counts, list(left.values())
 
 
-def all_files(ran):
-    """The files of a run. Where all are there, so is their manifest."""
-    return ran.files if ran.engine is None else ran.files | {NAME: RIGHT}
+def all_files(ran, options):
+    """The files of a run. Where all are there, so is their manifest, if it was asked for."""
+    return ran.files | {NAME: RIGHT} if ran.engine is not None and options else ran.files
 
 
-def marked(files):
+def marked(files, options):
     """The files, with a mark in the place of a manifest that is that of the others."""
     try:
-        return without_manifest(files) | {NAME: RIGHT}
+        return without_manifest(files) | {NAME: RIGHT} if options else files
     except WrongManifest:
         return files
 
@@ -175,7 +176,8 @@ def compare(program, library, scripts):
     for text, error in BAD_SCRIPTS.items():
         counts[BAD_SCRIPT] += refuse_bad_script(program, library, text, error)
     with ProcessPoolExecutor(os.cpu_count()) as pool:
-        for counted, left in pool.map(refuse_run, repeat(program), repeat(library), scripts):
+        options = [("--manifest",) * (number % 2) for number in range(len(scripts))]
+        for counted, left in pool.map(refuse_run, repeat(program), repeat(library), scripts, options):
             counts += counted
             restores += sum(pool.map(check_restores, repeat(program), left))
     return counts, restores

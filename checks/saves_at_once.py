@@ -2,11 +2,12 @@
 
 usage: python3 -m checks.saves_at_once PROGRAM [ROUNDS]
 
-In each of ROUNDS rounds, 100 where none is told, two or four runs that differ in every file begin at once, half of the
-rounds with --force. Each of them ends with status 0, or is refused with a line that says why, and has saved nothing then;
-without --force just one ends with status 0. All files are those of one run that ended with status 0, whole. A run whose
-folder is locked is refused before it plays its script, and one whose folder is free again soon is not. Then links stand
-where a save makes its files and where it puts them: what they lead to stays as it is.
+In each of ROUNDS rounds, 100 where none is told, two or four runs that differ in every file begin at once: all with a
+manifest, every other one, or none. Each of them ends with status 0, or is refused with a line that says why, and has saved
+nothing then. All files are those of one run that ended with status 0, whole; there is a manifest of them where one of
+those that ended so has been asked for one, and else none. A run whose folder is locked is refused before it plays its
+script, and one whose folder is free again soon is not. Then links stand where a save makes its files and where it puts
+them: what they lead to stays as it is.
 """
 
 import fcntl
@@ -20,7 +21,7 @@ from collections import Counter
 from pathlib import Path
 
 from model.scripts import run
-from checks.manifest_text import WrongManifest, without_manifest
+from checks.manifest_text import NAME, WrongManifest, without_manifest
 from checks.unsaved import Failure, fresh, script_of, text_of
 
 ROUNDS = 100
@@ -45,24 +46,26 @@ class Runs:
                                     stdin=text, stdout=subprocess.PIPE, stderr=subprocess.PIPE)
 
 
-def check_round(runs, folder, count, options, counts):
+def check_round(runs, folder, count, every, counts):
+    """Of so many runs each `every`-th one is to leave a manifest, or none is, where that is 0."""
     fresh(folder)
-    children = [runs.start(number, folder, *options) for number in range(count)]
+    with_manifest = [bool(every) and number % every == 0 for number in range(count)]
+    children = [runs.start(number, folder, *["--manifest"] * wanted) for number, wanted in enumerate(with_manifest)]
     said = [child.communicate(timeout=MOST_SECONDS)[1] for child in children]
     done = [child.returncode == 0 for child in children]
-    refusals = [f"E29 WriteFault 0\nimgcopy: {folder}: another one has this folder open\n".encode()]
-    if not options:
-        refusals.append(f"E29 WriteFault 0\nimgcopy: {folder}/log: this is a log: --force replaces it\n".encode())
+    refusal = f"E29 WriteFault 0\nimgcopy: {folder}: another one has this folder open\n".encode()
     for child, text in zip(children, said):
-        if child.returncode == 0 and text == b"" or child.returncode == 2 and text in refusals:
+        if child.returncode == 0 and text == b"" or child.returncode == 2 and text == refusal:
             continue
         raise Failure(f"{count} saves at once: status {child.returncode}, {text[:200]!r}")
-    given = without_manifest({path.name: path.read_bytes() for path in folder.iterdir()})
+    given = {path.name: path.read_bytes() for path in folder.iterdir()}
+    if (NAME in given) != any(is_done and wanted for is_done, wanted in zip(done, with_manifest)):
+        raise Failure(f"{count} saves at once, each {every}-th with a manifest: {sorted(given)}")
+    given = without_manifest(given) if NAME in given else given
     if given not in [runs.files[number] for number in range(count) if done[number]]:
         raise Failure(f"{count} saves at once: the files are of no run that ended with status 0")
-    if not options and sum(done) != 1:
-        raise Failure(f"{count} saves at once: {sum(done)} ended with status 0, and no one was told to replace a log")
-    counts[f"{count} at once, refused"] += count - sum(done)
+    counts["refused"] += count - sum(done)
+    counts["ended behind another one"] += sum(done) - 1
 
 
 def check_lock(runs, folder):
@@ -91,7 +94,7 @@ def check_links(runs, folder):
             fresh(folder)
             outside.write_bytes(b"outside")
             (folder / name).symlink_to(target)
-            child = runs.start(0, folder, "--force")
+            child = runs.start(0, folder, "--force", "--manifest")
             said = child.communicate(timeout=MOST_SECONDS)[1].decode()
             files = {path.name: path.read_bytes() for path in folder.iterdir() if not path.is_symlink()}
             given = without_manifest(files)
@@ -113,15 +116,15 @@ def main(arguments):
             folder = Path(place, "saved")
             runs = Runs(os.path.abspath(program), Path(place), 4)
             for number in range(rounds):
-                check_round(runs, folder, (2, 4)[number % 2], ([], ["--force"])[number // 2 % 2], counts)
+                check_round(runs, folder, (2, 4)[number % 2], number // 2 % 3, counts)
             check_lock(runs, folder)
             check_links(runs, folder)
-        if rounds >= ROUNDS and not sum(counts.values()):
+        if rounds >= ROUNDS and not counts["ended behind another one"]:
             raise Failure("no save met another one")
     except (Failure, WrongManifest, OSError, subprocess.SubprocessError) as failure:
         sys.exit(f"saves_at_once.py: {failure}")
-    print(f"ok saves_at_once: {rounds} rounds, the files are those of one run each time, {sum(counts.values())} saves were"
-          " refused, and no link was followed")
+    print(f"ok saves_at_once: {rounds} rounds, the files are those of one run each time, {counts['refused']} saves were refused,"
+          f" {counts['ended behind another one']} ended behind another one, and no link was followed")
 
 
 if __name__ == "__main__":

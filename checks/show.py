@@ -430,7 +430,6 @@ def check_seed(viewer, seed):
     shutil.rmtree(folder, ignore_errors=True)
     folder.mkdir()
     viewer.run("run", "--pages", script.pages, "--frames", script.frames, "--save", "saved", input=script.text)
-    (folder / "manifest").unlink(missing_ok=True)
     names = sorted(path.name for path in folder.iterdir())
     copies = [name for name in names if name.startswith("copy-")]
     for name in [name for name in names if name not in copies] + [draw.one_of(copies) for _ in copies[:COPIES]]:

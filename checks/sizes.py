@@ -92,8 +92,8 @@ def largest(program, folder):
     same("the volume of an open database", (folder / "open" / "volume").read_bytes(), volume)
 
 
-def most_memory(program, library, folder, name, words, given):
-    """How many KiB a command has of its heap at most, and how many in memory."""
+def most_memory(program, library, folder, name, words, given, wanted):
+    """How many KiB a command has of its heap at most, and how many in memory. It prints what is wanted."""
     told, telling = os.pipe()
     variables = os.environ | {"LD_PRELOAD": library, "MEMORY_REPORT": str(telling)}
     ran = subprocess.run([program, *words], cwd=folder, input=given, capture_output=True, check=False, env=variables,
@@ -101,30 +101,30 @@ def most_memory(program, library, folder, name, words, given):
     os.close(telling)
     with open(told, "rb") as report:
         counts = report.read().split()
-    if ran.returncode or not counts:
-        raise Failure(f"{name} on one page: status {ran.returncode}: {ran.stderr[:200]!r}")
+    if ran.returncode or not counts or wanted not in ran.stdout:
+        raise Failure(f"{name} on one page: status {ran.returncode}: {ran.stdout[-200:]!r} {ran.stderr[:200]!r}")
     return (int(counts[0]) + 1023) // 1024, int(counts[1])
 
 
 def small(program, library, folder):
     """How many KiB each command asks for on a volume of one page."""
-    script = text_of(life(1, (0,)))
+    calls_of_engine = [*life(1, (0,)), "repair 1 0"]
     for name in ("saved-one", "one"):
         (folder / name).mkdir()
     calls = {
-        "run": (["run", "--pages", "1", "--save", "saved-one"], script),
-        "redo": (["redo"], b""),
-        "restore": (["restore", "saved-one/log", "saved-one/master", "saved-one/copy-1", "saved-one/copy-2"], b""),
-        "audit": (["audit", "saved-one/log", "saved-one/copy-1", "saved-one/copy-2"], b""),
-        "show": (["show", "saved-one/log"], b""),
-        "list": (["list", "saved-one"], b""),
-        "open": (["open", "one", "--pages", "1"], script),
+        "run": (["run", "--pages", "1", "--save", "saved-one"], text_of([*calls_of_engine, "restore 2 all"]), b"repaired"),
+        "redo": (["redo"], b"", b""),
+        "restore": (["restore", "saved-one/log", "saved-one/master", "saved-one/copy-1", "saved-one/copy-2"], b"", b""),
+        "audit": (["audit", "saved-one/log", "saved-one/copy-1", "saved-one/copy-2"], b"", b"sound"),
+        "show": (["show", "saved-one/log"], b"", b""),
+        "list": (["list", "saved-one"], b"", b""),
+        "open": (["open", "one", "--pages", "1"], text_of(calls_of_engine), b"repaired"),
     }
     used = {}
-    for name, (words, given) in calls.items():
+    for name, (words, given, wanted) in calls.items():
         if name == "redo":
             given = (folder / "saved-one" / "log").read_bytes()
-        used[name], there = most_memory(program, library, folder, name, words, given)
+        used[name], there = most_memory(program, library, folder, name, words, given, wanted)
         most = SMALL + MADE_AHEAD * (name in ENGINES)
         if used[name] > most or there > IN_MEMORY:
             raise Failure(f"{name} on one page: it asks for {used[name]} KiB, and not at most {most}, and has {there} in"

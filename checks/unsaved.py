@@ -2,12 +2,13 @@
 
 usage: python3 -m checks.unsaved PROGRAM [KILLS]
 
-A run saves its files and their manifest over those of an older run: on a file system that is full, on one that is read-only, where a file
-may not be longer than so many bytes, where a folder is in the way, and where the program is killed as it writes, KILLS
-times, 60 where none is told. Each time there is a file up to which all are new, and from which on all are old, byte for
-byte; the first line of the answer has how many bytes of that file went out, the second one names it, and the third one
-names those that are new. Then a run that nothing stops saves all, and names what a killed one left. A file system is
-mounted where the system lets us, and else is left out.
+A run saves its files over those of an older run: without a manifest, with one that is asked for, and with one since an
+older one stands there. It does so on a file system that is full, on one that is read-only, where a file may not be longer
+than so many bytes, where a folder is in the way, and where the program is killed as it writes, KILLS times, 60 where none
+is told. Each time there is a file up to which all are new, and from which on all are old, byte for byte; the first line of
+the answer has how many bytes of that file went out, the second one names it, and the third one names those that are new.
+Then a run that nothing stops saves all, and names what a killed one left. A file system is mounted where the system lets
+us, and else is left out.
 """
 
 import os
@@ -52,18 +53,21 @@ def text_of(lines):
 
 
 class Saver:
-    """A run that saves five files and their manifest over those of an older one, which had only so many copies."""
+    """A run that saves five files over those of an older one, which had only so many copies; and a manifest, if the older
+    one has left one, or it is an option."""
 
-    def __init__(self, program, pages, copies):
-        self.program, self.pages = program, pages
+    def __init__(self, program, pages, copies, *options, had_manifest=False):
+        self.program, self.pages, self.options = program, pages, options
+        self.has_manifest = had_manifest or "--manifest" in options
         self.text = text_of(script_of(pages, 5, 3))
         # The last record of the older run makes its master record another one, too.
         self.old = run(text_of([*script_of(pages, 1000, copies), "ckpt", "gather", "gather", "endckpt"]), pages).files
         self.ran = run(self.text, pages)
         if len(self.ran.files) != 5 or any(self.old.get(name) == data for name, data in self.ran.files.items()):
             raise Failure("the runs do not save five files, which all differ")
-        self.old[NAME] = manifest_of(self.old, OLD_HEAD)
-        self.new = self.ran.files | {NAME: NEW}
+        if had_manifest:
+            self.old[NAME] = manifest_of(self.old, OLD_HEAD)
+        self.new = self.ran.files | ({NAME: NEW} if self.has_manifest else {})
 
     def state(self, count):
         """The files, if so many of them are new."""
@@ -79,13 +83,15 @@ class Saver:
 
     def marked(self, files):
         """The files, with a mark in the place of the new manifest."""
+        if not self.has_manifest:
+            return files
         try:
             return files | {NAME: NEW} if without_manifest(self.ran.files | {NAME: files.get(NAME)}) else files
         except WrongManifest:
             return files
 
     def words(self, folder):
-        return [self.program, "run", "--pages", str(self.pages), "--save", str(folder), "--force"]
+        return [self.program, "run", "--pages", str(self.pages), "--save", str(folder), *self.options]
 
     def play(self, folder, limit=None):
         def before():
@@ -165,9 +171,14 @@ def check_ways(saver, folder):
         saver.put_old(fresh(folder))
         (folder / name).unlink(missing_ok=True)
         (folder / name).mkdir()
-        saver.check_fault(folder, f"a folder in the way of {name}", (name, "E29 WriteFault 0"),
-                          reason="Is a directory")
+        if name == NAME:
+            check_refused(saver, folder)
+        else:
+            saver.check_fault(folder, f"a folder in the way of {name}", (name, "E29 WriteFault 0"),
+                              reason="Is a directory")
         (folder / name).rmdir()
+        if name == NAME and name in saver.old:
+            (folder / name).write_bytes(saver.old[name])
         saver.check_end(folder, f"a folder in the way of {name}")
     shutil.rmtree(folder)
     folder.write_bytes(b"")
@@ -176,6 +187,18 @@ def check_ways(saver, folder):
         raise Failure(f"a file in the place of the folder: status {done.returncode}, {done.stderr[:80]!r}")
     folder.unlink()
     return len(saver.new) + 1
+
+
+def check_refused(saver, folder):
+    """What has the name of the manifest may be a database's: nothing is played, or it is in the way by --force."""
+    done = saver.play(folder)
+    told = f"imgcopy: {folder}/{NAME}: this may be the manifest of a database: name another folder, or add --force\n"
+    if (done.returncode, done.stdout, done.stderr.decode()) != (2, b"", f"E29 WriteFault 0\n{told}"):
+        raise Failure(f"a folder in the way of the manifest: status {done.returncode}, {done.stderr[:200]!r}")
+    words, saver.options = saver.options, (*saver.options, "--force")
+    saver.check_fault(folder, "a folder in the way of the manifest, by --force", (NAME, "E29 WriteFault 0"),
+                      reason="Is a directory")
+    saver.options = words
 
 
 def mount(folder, options):
@@ -256,12 +279,18 @@ def main(arguments):
             raise Failure(f"there is no program {arguments[0]}")
         kills = int(arguments[1]) if arguments[1:] else KILLS
         program = os.path.abspath(program)
-        small, large = Saver(program, PAGES, 1), Saver(program, MANY_PAGES, 3)
+        small = [Saver(program, PAGES, 1), Saver(program, PAGES, 1, "--manifest"),
+                 Saver(program, PAGES, 1, had_manifest=True)]
+        large = [Saver(program, MANY_PAGES, 3), Saver(program, MANY_PAGES, 3, "--manifest", had_manifest=True)]
+        limits, ways, mounted, counts = 0, 0, 0, Counter()
         with tempfile.TemporaryDirectory() as place:
             folder = Path(place, "saved")
-            limits, ways = check_limits(small, folder), check_ways(small, folder)
-            mounted = check_mounted(small, folder)
-            counts = check_kills(large, folder, kills)
+            for saver in small:
+                limits += check_limits(saver, folder)
+                ways += check_ways(saver, folder)
+                mounted += check_mounted(saver, folder)
+            for saver in large:
+                counts += check_kills(saver, folder, kills // 2)
     except (Failure, OSError, subprocess.SubprocessError) as failure:
         sys.exit(f"unsaved.py: {failure}")
     print(f"ok unsaved: each file is the old one or the new one, whole, after {limits} limits, {ways} things in the way,"

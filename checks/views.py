@@ -158,7 +158,6 @@ def main(arguments):
             done = viewer.run("run", "--pages", PAGES, "--save", "day", input=text_of(script_of(PAGES, 5, 3)))
             if done.returncode:
                 raise Failure(f"a run: {done.stderr[:200]!r}")
-            (Path(place) / "day" / "manifest").unlink()
             check_headers(viewer, "copy-1", [], True)
             check_headers(viewer, "copy-2", ["copy-1"], False)
             check_pages(viewer)

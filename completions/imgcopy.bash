@@ -12,11 +12,18 @@ _imgcopy() {
     case $before in
         --pages | --frames | --on | --copy | --from | --to | --txn | --page | --until) return ;;
         --save | --into) compopt -o filenames; COMPREPLY=($(compgen -d -- "$word")); return ;;
-        -o | --output | --log-out | --master | --manifest) compopt -o filenames; COMPREPLY=($(compgen -f -- "$word")); return ;;
+        --manifest)
+            if [ "${COMP_WORDS[1]}" != run ]; then
+                compopt -o filenames
+                COMPREPLY=($(compgen -f -- "$word"))
+                return
+            fi
+            ;;
+        -o | --output | --log-out | --master) compopt -o filenames; COMPREPLY=($(compgen -f -- "$word")); return ;;
     esac
     case ${COMP_WORDS[1]} in
         redo) options="-o --output --force --until --help" ;;
-        run) options="--pages --frames --save --force --strict --help" ;;
+        run) options="--pages --frames --save --manifest --force --strict --help" ;;
         open) options="--pages --frames --salvage --strict --help" ;;
         backup) options="--on --full --into --help" ;;
         restore) options="--copy -o --output --log-out --force --until --manifest --no-manifest --help" ;;

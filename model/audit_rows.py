@@ -1,4 +1,4 @@
-"""Worked rows of `imgcopy audit`, on files that the scripts of rows.py save. For answers.py."""
+"""Worked rows of `imgcopy audit`, on files that the scripts of rows.py save. checks/rows.py plays them."""
 
 from model.file_rows import CHAIN, DIRTY, FIRST, LATER, NONE, FileRow, in_first_format
 
@@ -7,6 +7,8 @@ SOUND = "sound"
 ROWS_OF_BOTH_FORMATS = [
     FileRow("a sound copy", DIRTY, "log copy-1", SOUND, status=0),
     FileRow("a redo point past a change", DIRTY, "log copy-1", "E41 Unsound 1 0", (("copy-1", 32, "c0"),), status=1),
+    FileRow("a begin LSN and a redo point past a change", DIRTY, "log copy-1", "E41 Unsound 1 0",
+            (("copy-1", 24, "0001"), ("copy-1", 32, "0001")), status=1),
     FileRow("a redo point at the log's end, audited", DIRTY, "log copy-1", "E39 RedoBeyondLog",
             (("copy-1", 24, "0002"), ("copy-1", 32, "0002")), status=1),
     FileRow("a page at the log's end, audited", DIRTY, "log copy-1", "E40 PageBeyondLog 0", (("copy-1", 72, "0002"),),

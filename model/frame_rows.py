@@ -1,8 +1,13 @@
-"""Worked rows of runs with fewer frames than pages, beside those of rows.py."""
+"""Worked rows of runs with few frames, beside those of rows.py."""
 
-from model.rows import Row
+from model.rows import ROWS, Row
+
+# Copies that restore the same with one frame.
+COPIED = ("a change after the copy", "a page that is dirty all the time", "a change behind the cursor",
+          "a change during a write", "a stored page just at the redo point of the parent", "no Add is made twice")
 
 FRAME_ROWS = [
+    *(row._replace(name=f"{row.name}, with one frame", frames=1) for row in ROWS if row.name in COPIED),
     Row("one frame, whose page has to be written before another is read", 2, """
         begin -> began 1 at 64
         set 1 0 0 5 -> lsn 128

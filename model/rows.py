@@ -1,4 +1,4 @@
-"""Worked rows: scripts with the reply to each event, and the bytes that they save. For answers.py.
+"""Worked rows: scripts with the reply to each event, and the bytes that they save. checks/rows.py plays them.
 
 A row has a name, a count of pages, and lines `event -> reply`; the lines of a restore are parted by ` | `. A line that
 is a name in capitals stands for the lines of that name.
@@ -87,11 +87,12 @@ ROWS = [
     Row("a change behind the cursor", 1, """
         COPIED_BEHIND_THE_CURSOR
         restore 1 all -> page 0 lsn 192 0=5
-        """),
+        """, files={"log": {256: "09000000"}}),
     Row("a change during a write", 1, """
         COPIED_AFTER_A_CHANGED_WRITE
         restore 1 all -> page 0 lsn 192 0=6
-        """, files={"log": {320: "08000000 00000000 0001000000000000 01000000 00000000 c000000000000000"}}),
+        """, files={"log": {320: "08000000 00000000 0001000000000000 01000000 00000000 c000000000000000",
+                               384: "09000000"}}),
     Row("a stored page just at the redo point of the parent", 1, """
         TAKEN_AT_THE_REDO_POINT
         restore 2 all -> page 0 lsn 128 0=5
@@ -172,11 +173,12 @@ ROWS = [
     Row("a copy while a checkpoint is open", 1, """
         WHILE_A_CHECKPOINT_IS_OPEN
         restore 1 all -> page 0 lsn 256 0=5
-        """, files={"copy-1": {24: "4000000000000000 4000000000000000"}}),
+        """, files={"log": {384: "08000000"}, "copy-1": {24: "4000000000000000 4000000000000000"}}),
     Row("a chain, and a rollback that was begun", 1, """
         CHAIN
         restore 3 all -> page 0 lsn 704
         """, files={
+            "log": {448: "09000000"},
             "copy-3": {0: "41494d4741524332 01000000 03000000 02000000 02000000 8001000000000000 8001000000000000"
                           "00000000" + "00" * 20}}),
     Row("numbers past the volume and past the page", 65536, """
@@ -222,7 +224,7 @@ ROWS = [
             596: "01000000 01000000 4001000000000000 4001000000000000"}}),
     Row("a page that is written behind the first gather", 4, """
         WRITTEN_BEFORE_ITS_TURN
-        """),
+        """, files={"log": {448: "08000000", 512: "09000000"}}),
     Row("a gather without a checkpoint", 4, "gather -> E14 NoCkpt"),
     Row("as many copies as there may be", 1,
         "IDLE\n" + repeated(1024, lambda number: f"full -> copy {number}\ndrop {number} -> dropped")
@@ -282,7 +284,7 @@ ROWS = [
         THREE_LOSERS
         restore 1 all -> page 0 lsn 832
         """),
-    Row("a script without events", 1, ""),
+    Row("a log without records", 2, "", files={"log": {0: "41494d474c4f4732 0200000000000000" + "00" * 48}}),
 ]
 
 # It takes the model some seconds.
@@ -300,6 +302,8 @@ SIZES = {
     ("a chain, and a rollback that was begun", "log"): 704,
     ("a chain, and a rollback that was begun", "copy-3"): 64,
     ("a page that is dirty all the time", "copy-1"): 576,
+    ("a log without records", "log"): 64,
+    ("four records", "log"): 320,
     ("two incremental copies of one parent", "copy-2"): 576,
     ("a change after the copy", "copy-1"): 1088,
 }

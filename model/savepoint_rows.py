@@ -199,7 +199,8 @@ SAVEPOINT_ROWS = [
 # Volumes of one page, by their first bytes. The log of the last row ends with the EndChkpt.
 SAVEPOINT_FILE_ROWS = [
     FileRow("the last step taken back, from its files", OPEN, "log master copy-1",
-            "0000000001000000 4002000000000000", status=0),
+            "0000000001000000 4002000000000000", status=0,
+            undone=("Comp 512 of 1, UndoNxtLSN 384", "Comp 576 of 1, UndoNxtLSN 192", "End 640 of 1")),
     FileRow("the last step taken back and committed, from its files", COMMITTED, "log master copy-1",
             "0000000001000000 c001000000000000 0500000000000000 09", status=0),
     FileRow("redo of a step that was taken back", OPEN, "redo",

@@ -7,7 +7,7 @@
 # build/PROGRAM.proved: while they and the kit stay as they are, nothing of the program is proved or built again.
 set -u
 cd "$(dirname "$0")/.." || exit 1
-log=build/prove.log root=
+top=$PWD log=build/prove.log root=
 trap '[ -z "$root" ] || rm -rf "$root"' EXIT
 
 fail() {
@@ -66,7 +66,7 @@ names_of() {
 prove() {
     local count
     count=$(lines_of "$1" | wc -l)
-    (cd "$root" && PYTHONUNBUFFERED=1 rt ci 2>&1) | sed -u "s|$root/||g" | tee -a "$log" | show_progress "$count"
+    (cd "$root" && PYTHONUNBUFFERED=1 "$top/tools/longest.py" rt ci 2>&1) | sed -u "s|$root/||g" | tee -a "$log" | show_progress "$count"
     return "${PIPESTATUS[0]}"
 }
 
@@ -76,6 +76,8 @@ show_progress() {
         if [ "$mark" = rt: ] && [[ $rest == proved || $rest == "is kept: "* ]]; then
             done=$((done + 1))
             echo "done: $crate ($done of $1 crates, $(($1 - done)) left)"
+        elif [ "$mark" = longest: ]; then
+            echo "longest: $crate $rest"
         fi
     done
 }

@@ -7,7 +7,9 @@ documentation of each public item, and fails where the repository does not have 
 - crates/README.md does not draw the layers and the crates of crates.txt in the same order, or a crate stands there
   above one that it stands on,
 - a contract of docs/CONTRACTS.md is not in the file that its row links, or lacks a clause that the row names,
-- docs/WRONG_BODIES.md does not name a crate's wrong bodies of the gate, or the manual page the latest version.
+- docs/WRONG_BODIES.md does not name a crate's wrong bodies of the gate, or the manual page the latest version,
+- its table "In short" names what is no wrong body, or, behind "tests", what is no test, or the worked rows of
+  docs/CONTRIBUTING.md name a row that checks/rows.py does not play, or a test that is not there.
 
 usage: check_docs.py
 
@@ -24,6 +26,10 @@ from pathlib import Path
 
 import contracts
 from repository import ROOT, crates, lines_of_crates
+
+sys.path.append(str(ROOT))
+
+from checks import rows  # noqa: E402  # it stands at the top of the repository
 
 SUFFIXES = (".rt", ".antt", ".md", ".py", ".rs", ".sh", ".edit", ".log", ".volume", ".fault", ".svg", ".txt")
 # The files whose words count, and what counts for nothing in them.
@@ -172,6 +178,35 @@ def other_wrong_bodies():
             yield f"docs/WRONG_BODIES.md: it {kind} {crate}/{body}"
 
 
+def table_of(page, heading):
+    """The rows of the table under a heading of a document in docs/, each as its cells."""
+    text = (ROOT / "docs" / page).read_text(encoding="utf-8").partition(f"\n## {heading}\n")[2].partition("\n## ")[0]
+    lines = [line for line in text.splitlines() if line.startswith("| ")][1:]
+    return [[cell.strip() for cell in line.strip("|").split("|")] for line in lines]
+
+
+def tests():
+    """The names of the tests in all crates."""
+    sources = (path.read_text(encoding="utf-8") for path in (ROOT / "crates").glob("*/src/**/*.rt"))
+    return {name for text in sources for name in re.findall(r"#\[test\]\s+fn (\w+)", text)}
+
+
+def lacking_carriers():
+    """What the tables of wrong bodies and of worked rows name as one and is none."""
+    known, bodies = tests(), {path.stem for path in all_files() if path.suffix == ".edit"}
+    for first, *_, carriers in table_of("WRONG_BODIES.md", "In short"):
+        edits, _, tried = carriers.partition("tests: ")
+        named = {name for name in re.findall(r"`(\w+)`", edits) if name not in crates() and name != "claim"}
+        for name in sorted(named - bodies | set(re.findall(r"`(\w+)`", tried)) - known):
+            yield f"docs/WRONG_BODIES.md: '{first}': {name} is no wrong body, or no test"
+    for first, typed, tried in table_of("CONTRIBUTING.md", "Worked rows"):
+        named = set(re.findall(r'"([^"]+)"', typed))
+        for name in sorted(named - rows.names() | set(re.findall(r"`(\w+)`", tried)) - known):
+            yield f"docs/CONTRIBUTING.md: the worked row '{first}': {name} is not there"
+        if not named and "`" not in tried:
+            yield f"docs/CONTRIBUTING.md: the worked row '{first}': nothing tries it"
+
+
 def other_layers():
     """Where crates/README.md draws other layers or crates than crates.txt, or this has one above what it stands on."""
     lines = (ROOT / "crates.txt").read_text(encoding="utf-8").partition("\n\n")[2].splitlines()
@@ -227,7 +262,8 @@ def fault_of_version():
 
 def main():
     sources, count = Sources(), 0
-    faults = [*unnamed_files(), *other_layers(), *lacking_contracts(), *other_wrong_bodies()]
+    faults = [*unnamed_files(), *other_layers(), *lacking_contracts(), *other_wrong_bodies(),
+              *lacking_carriers()]
     faults += filter(None, [fault_of_version()])
     shown = dict(texts())
     places = {path: set(contracts.anchors_of(contracts.HEADING.findall(text))) for path, text in shown.items()}

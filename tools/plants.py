@@ -11,8 +11,9 @@ begin. `--left-out` takes only those that the gate leaves out. `--sample N` take
 the sum of the commit's hash and a wrong body's path says which crate comes first, and which of its wrong bodies. It
 takes none of a crate whose proof alone would take longer than all else of a sample (DEAR). The
 second tries those of one crate over what `rt check` kept in this checkout, by `rt must-fail`. The third tries none, and
-looks whether each can be applied: whether what it changes stands in its file once. Its last line begins with 'ok
-wrong_bodies' then.
+looks whether each can be applied: whether what it changes stands in its file once, and is code. A change of a contract, a
+definition or a proof shows nothing of any body, so of `specs` only the number of a constant may be changed. Its last line
+begins with 'ok wrong_bodies' then.
 
 The copy is a folder of its own outside of the checkout. What rt says goes to build/plants.log. The last line is
 'N passed, M failed': a wrong body that is refused has passed, and one that is not refused, not tried, or cannot be
@@ -33,9 +34,11 @@ from pathlib import Path
 from repository import ROOT, lines_of_crates
 
 LOG = ROOT / "build" / "plants.log"
-# Three quarters of an hour of a processor each, where a sample of other crates takes a quarter of one.
-DEAR = ("open_database",)
+# Its second proof takes longer than all else of a sample.
+DEAR = ("database_session",)
 RESULT = re.compile(r"must-fail (\w+/[\w.-]+\.edit): (refused|NOT REFUSED|NOT TRIED|BAD EDIT)")
+CONSTANT = re.compile(r"\s*(\w+) = [0-9_]+")
+CLAUSE = re.compile(r"\b(ensures|requires)\b")
 SHOWN = re.compile(r"trying its must-fail edits|tried by an earlier run|: waiting for "
                    r"|NOT PROVED|NOT REFUSED|NOT TRIED|BAD EDIT")
 
@@ -94,10 +97,20 @@ def fault_of(crate, edit):
                 return "a line new: has no file: or old: before it"
             if texts[file].count(old) != 1:
                 return f"its file has {old.strip()[:60]!r} {texts[file].count(old)} times"
+            if not is_code(file.relative_to(ROOT / "crates" / crate).parts[0], old, rest):
+                return f"it changes a contract, a definition or a proof, and no body: {old.strip()[:60]!r}"
             texts[file], old = texts[file].replace(old, rest), None
     if all(text == file.read_text(encoding="utf-8") for file, text in texts.items()):
         return "it changes nothing"
     return None
+
+
+def is_code(folder, old, new):
+    """Whether a wrong body changes code, or the number of a constant that a definition has."""
+    if folder == "specs":
+        before, after = CONSTANT.fullmatch(old), CONSTANT.fullmatch(new)
+        return bool(before and after and before[1] == after[1])
+    return folder == "src" and not CLAUSE.search(old)
 
 
 def look(edits):

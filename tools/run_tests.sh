@@ -33,9 +33,9 @@ run_gate() {
     check_power=crates/check_power/out/check_power
     bank=crates/demo_bank/out/demo_bank
     rm -f "$program" "$check_library" "$check_faults" "$check_power" "$bank"
-    RT_JOBS=$(lanes) PYTHONUNBUFFERED=1 rt ci 2>&1 | tee build/gate.log
+    RT_JOBS=$(lanes) PYTHONUNBUFFERED=1 tools/longest.py rt ci 2>&1 | tee build/gate.log
     local status=${PIPESTATUS[0]}
-    if [[ $(tail -n 1 build/gate.log) =~ $counts_of_rt ]]; then
+    if [[ $(grep -v '^longest: ' build/gate.log | tail -n 1) =~ $counts_of_rt ]]; then
         passed=${BASH_REMATCH[1]} failed=${BASH_REMATCH[2]}
     else
         echo "FAILED gate: it ended with status $status, and without its counts"
@@ -184,13 +184,23 @@ run_sample() {
     fi
 }
 
+# A folder in memory, where there is one with room: what asks nothing of a disk need not wait for the syncs of one.
+memory_place() {
+    local free
+    free=$(df --output=avail -k /dev/shm 2> /dev/null | tail -n 1)
+    if [ -w /dev/shm ] && [ "${free:-0}" -gt 2000000 ]; then echo /dev/shm; else echo "${TMPDIR:-/tmp}"; fi
+}
+
 # The checks that need no program but the one that is tried.
 run_own_checks() {
+    local -x TMPDIR
+    TMPDIR=$(memory_place)
     check contracts python3 -- python3 tools/contracts.py --check
     check documents python3 -- python3 tools/check_docs.py
     check laws python3 -- python3 tools/check_laws.py
     check wrong_bodies python3 -- python3 tools/plants.py --look
     check examples "$program" python3 -- checks/check.sh "$program"
+    check rows "$program" python3 -- python3 -m checks.rows "$program"
     check day "$program" python3 -- checks/day.sh "$program" build/day
     check memory "$program" python3 rustc -- refuse_memory checks.memory "$program"
     check run_memory "$program" python3 rustc -- refuse_memory checks.run_memory "$program"

@@ -7,10 +7,10 @@ use Rattle.buffer_pool.specs.Pool.{IsPoolOf, PoolView}
 use Rattle.log_rules.specs.Table.{Table}
 use Rattle.log_store.specs.WrittenLog.{WrittenLog}
 use Rattle.fuzzy_ckpt.specs.declared.point.Point.{Point}
-use Rattle.image_copies.specs.declared.copy_id.CopyKind.TheVariants.{Full, Inc}
-use Rattle.image_copies.specs.declared.copy_id.Decision.{Decision}
+use Rattle.copy_vault.specs.declared.copy_id.CopyKind.TheVariants.{Full, Inc}
+use Rattle.copy_vault.specs.declared.copy_id.Decision.{Decision}
 use Rattle.copy_vault.specs.declared.fault.CopyFault.{CopyFault}
-use Rattle.image_copies.specs.Copy.{CopyView}
+use Rattle.copy_vault.specs.Copy.{CopyView}
 use Rattle.copy_vault.specs.Vault.{CopyState, answer_in, complete, decided, drop_refusal, dropped, inc_refusal}
 use Rattle.copy_vault.specs.Vault.{open_refusal}
 use Rattle.copy_vault.specs.Vault.{opened, pages_read, reading, reading_of, seal_refusal, sealed, state_of}

@@ -9,9 +9,9 @@ use Rattle.log_records.specs.Coverage.{Covers}
 use Rattle.log_records.specs.Image.{image}
 use Rattle.log_rules.specs.Table.{Table}
 use Rattle.log_store.specs.WrittenLog.{EndsAtRecord, WrittenLog, end_up_to}
-use Rattle.image_copies.specs.Chain.{IsChain, content, last_redo}
+use Rattle.copy_vault.specs.Chain.{IsChain, content, last_redo}
 use Rattle.copy_vault.specs.ChainOf.{IsChainOf}
-use Rattle.image_copies.specs.Copy.{CopyView}
+use Rattle.copy_vault.specs.Copy.{CopyView}
 use Rattle.copy_coverage.proofs.Public.{covered_of_members}
 use Rattle.copy_coverage.proofs.Public.{restorable}
 use Rattle.buffer_pool.specs.Pool.{IsPoolOf, PoolView, stored_as_now, state_at, unwritten, with_state, writing_of, written_of}

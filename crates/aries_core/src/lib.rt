@@ -33,4 +33,4 @@ pub use engine_rules::{
     the_master_names_a_complete_checkpoint, the_written_lsns_are_those_answered,
 };
 pub use played::{Played, play};
-pub use resume::{Legacy, NotResumed};
+pub use resume::{NotResumed, ResumedParts};

@@ -26,7 +26,7 @@ use txn_table::{Returns, TxnTable};
 /// What an older engine left: a log in which no transaction is open any more, what its reader knew
 /// of it, and the image copies that are at hand.
 #[derive(Drop)]
-pub struct Legacy {
+pub struct ResumedParts {
     pub log: LogImage,
     /// Those of the log.
     pub checkpoints: LogCheckpoints,
@@ -55,35 +55,35 @@ impl<S: PageStore + Drop, D: LogDevice + Drop> Engine<S, D> {
     /// memory is refused. Store and device are handed back then, and what was left is dropped.
     pub fn resume(
         alloc: Global,
-        legacy: Legacy,
+        parts: ResumedParts,
         pages: &[Page],
         frames: u32,
         store: S,
         device: D,
     ) -> Result<Engine<S, D>, NotResumed<S, D>>
         requires frames { IsFrameCount frames }
-        requires may { MayResume legacy.log legacy.vault.copies }
-        requires checkpoints { AreCheckpointsOf legacy.log legacy.checkpoints }
-        requires begun { legacy.begun ≡ length (begun legacy.log.records) }
-        requires pages { pages.now ≡ redo_all legacy.log.records (page_count legacy.log) }
+        requires may { MayResume parts.log parts.vault.copies }
+        requires checkpoints { AreCheckpointsOf parts.log parts.checkpoints }
+        requires begun { parts.begun ≡ length (begun parts.log.records) }
+        requires pages { pages.now ≡ redo_all parts.log.records (page_count parts.log) }
         requires stored { S.stored store ≡ pages.now }
-        requires holds { HoldsLog D.bytes legacy.log device }
-        requires lasts { lsn_of (length legacy.log.records) ≤ D.lasting device }
+        requires holds { HoldsLog D.bytes parts.log device }
+        requires lasts { lsn_of (length parts.log.records) ≤ D.lasting device }
 
         ensures state { IfOk result (λ it. it.state
-            ≡ resumed_state legacy.log frames it.state.master legacy.vault.copies) }
+            ≡ resumed_state parts.log frames it.state.master parts.vault.copies) }
         ensures master { IfOk result (λ it.
-            IsLastPoint legacy.log legacy.log.records it.state.master) }
+            IsLastPoint parts.log parts.log.records it.state.master) }
         ensures store { IfOk result (λ it. it.store ≡ store) }
         ensures device { IfOk result (λ it. it.device ≡ device) }
         ensures untouched { IfErr result (λ e. (e.store ≡ store) × (e.device ≡ device)) }
     {
-        let Legacy {
+        let ResumedParts {
             log,
             checkpoints,
             begun,
             vault,
-        } = legacy;
+        } = parts;
         // A log has no more records than it may have, which one of its calls tells.
         let _records = log.records();
         let pool = match Pool::resume(alloc, store, pages, frames) {

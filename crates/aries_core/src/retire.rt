@@ -12,15 +12,15 @@ use page_store::PageStore;
 
 impl<S: PageStore + Drop, D: LogDevice + Drop> Engine<S, D> {
     /// Ends the engine, and leaves its log, its last complete checkpoint and its image copies. The
-    /// store, the device and what is only in memory of the pages go.
+    /// store, the device and what is only in memory of the pages go. Neither of the two is called:
+    /// `into_parts` hands them out as they are, and what lets go of them knows no call of theirs.
     pub fn retire(self) -> Retired
         ensures log { result.log ≡ log_of self.state }
         ensures forced_end { result.forced_end ≡ self.state.forced_end }
         ensures master { result.master ≡ option_map master_record self.state.master }
         ensures copies { result.copies ≡ self.state.copies }
     {
-        let (retired, _, _) = self.into_parts();
-        retired
+        left_of(self.into_parts())
     }
 
     /// As `retire`, but the store and the device are handed back, as they are: neither is called.
@@ -47,6 +47,15 @@ impl<S: PageStore + Drop, D: LogDevice + Drop> Engine<S, D> {
         let retired = Retired::new(log, forced_end, master_of(master), vault);
         (retired, pool.into_store(), device)
     }
+}
+
+/// What is left of an engine that was taken apart. Its types say of the store and the device only
+/// that they may be let go, so that they cannot be called here.
+fn left_of<S: Drop, D: Drop>(parts: (Retired, S, D)) -> Retired
+    ensures { result ≡ parts.0 }
+{
+    let (retired, _, _) = parts;
+    retired
 }
 
 /// The master record of a complete checkpoint.

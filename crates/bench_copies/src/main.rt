@@ -9,7 +9,7 @@ mod user;
 
 use case::{Case, Place, case_of};
 use command_words::words_of;
-use imgcopy_engine::{FileLog, MemDevice};
+use imgcopy_engine::{FileLog, MemDevice, Wary};
 use measure::{Measured, measure};
 use std::alloc::Global;
 use std::fs::File;
@@ -54,7 +54,7 @@ where
     requires few { case.now.pages ≤ 65536 }
     requires workers { case.now.workers ≤ 64 }
 {
-    let device = FileLog::new(files.alloc(), log_file(files, name).ok()?).ok()?;
+    let device = FileLog::new(files.alloc(), log_file(files, name).ok()?, Wary).ok()?;
     measure::<FileLog, Brand, R>(rt, files.alloc(), Blank::new(65), device, case)
 }
 

@@ -1,6 +1,6 @@
 -- Pages in frames, in the order in which they were fetched.
 use Rattle.std.specs.Prelude.{ℕ, ◌≡◌, ◌==◌, ◌&&◌, ◌++◌, Bool, true, List, [], ◌∷◌}
-use Rattle.std.specs.Prelude.{length, nat_le, not, Option, if◌then◌else◌}
+use Rattle.std.specs.Prelude.{is_some, length, nat_le, not, Option, if◌then◌else◌}
 use Rattle.std.specs.List.{list_any}
 use Rattle.std.specs.Option.{option_map_or}
 use Rattle.page_core.specs.declared.page.Page.{Page}
@@ -35,11 +35,12 @@ abbrev pub fetched : ℕ → (ℕ → Bool) → List Page → Page → List Page
 fetched frames is_clean pages page = with_room frames is_clean pages ++ page ∷ []
 
 -- what the frames of a pool hold: in the order of fetch a slot for each page, with holes where
--- pages were given up; the pages; for how many more slots there is room, where a frame is free; and
--- marks for the search of a clean page
+-- pages were given up; the pages; whether a frame is free; for how many more slots there is room
+-- then; and marks for the search of a clean page
 pub record FramesView : Type 0 where
   pub slots : List (Option Page)
   pub pages : List Page
+  pub has_free : Bool
   pub room : ℕ
   pub marks : MarksView
 
@@ -52,6 +53,7 @@ abbrev pub frames_view : SlotsView → Option Page → MarksView → FramesView
 frames_view slots free marks = record {
   slots = slots.list;
   pages = pages_in slots.list;
+  has_free = is_some free;
   room = option_map_or (λ frame. slots.spare) free 0;
   marks = marks;
 }

@@ -210,6 +210,8 @@ impl Frames {
         requires sought { IsSought (is_clean_in states.now) self.old }
         ensures pages { self.new.pages ≡ given_up (is_clean_in states.now) self.old.pages
             ++ page ∷ [] }
+        ensures free { self.new.has_free
+            ≡ list_any (λ page. is_clean_in states.now page.number) self.old.pages }
         ensures sought { IsSought (is_clean_in states.now) self.new }
     {
         self.limit_holes(states);
@@ -223,6 +225,8 @@ impl Frames {
         requires holes { length self.old.slots ≤ 2 * length self.old.pages - 1 }
         requires sought { IsSought (is_clean_in states.now) self.old }
         ensures pages { self.new.pages ≡ given_up (is_clean_in states.now) self.old.pages }
+        ensures frame { is_some result
+            ≡ list_any (λ page. is_clean_in states.now page.number) self.old.pages }
         ensures room { self.old.room ≤ self.new.room }
         ensures sought { IsSought (is_clean_in states.now) self.new }
     {

@@ -166,6 +166,7 @@ impl Slots {
     pub(crate) fn take(&mut self, place: usize) -> Option<Frame>
         requires taken { IsSome (slice_index_or self.old.list place None) }
         requires holes { length self.old.list ≤ 2 * length (pages_in self.old.list) - 1 }
+        ensures frame { result ≡ slice_index_or self.old.list place None }
         ensures list { self.new.list ≡ slice_set self.old.list place None }
         ensures spare { self.new.spare ≡ self.old.spare }
     {

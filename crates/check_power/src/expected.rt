@@ -16,7 +16,7 @@ enum Made {
     Growth(u32),
 }
 
-/// The same, with the LSN of its record.
+/// What such a call made, with the LSN of its record.
 #[derive(Drop)]
 struct Unsure {
     lsn: Lsn,
@@ -61,7 +61,7 @@ impl Expected {
         })
     }
 
-    /// The same.
+    /// A copy of this value.
     pub fn copied(&self, alloc: Global) -> Result<Expected, AllocError> {
         let mut unsure = Vec::new(alloc);
         for it in &self.unsure {

@@ -44,7 +44,7 @@ impl Heard {
         })
     }
 
-    /// The same, to be heard of on its own.
+    /// A copy of this value, which then hears of its own database.
     pub fn copied(&self) -> Result<Heard, Wrong> {
         Ok(Heard {
             alloc: self.alloc,

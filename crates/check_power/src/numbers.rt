@@ -60,7 +60,7 @@ impl Numbers {
         Ok(Numbers { pages, slots })
     }
 
-    /// The same.
+    /// A copy of these numbers.
     pub fn copied(&self, alloc: Global) -> Result<Numbers, AllocError> {
         Ok(Numbers {
             pages: self.pages,

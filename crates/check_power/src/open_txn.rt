@@ -33,7 +33,7 @@ impl OpenTxn {
         }
     }
 
-    /// The same.
+    /// A copy of this value.
     pub fn copied(&self, alloc: Global) -> Result<OpenTxn, AllocError> {
         Ok(OpenTxn {
             txn: self.txn,

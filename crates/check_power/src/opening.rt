@@ -3,7 +3,7 @@
 ghost use Rattle.std.specs.Prelude.{◌≡◌, IsTrue, take};
 ghost use Rattle.buffer_pool.specs.Pool.{IsFrameCount};
 ghost use Rattle.engine_restart.specs.LogFile.{LastsOnFile};
-ghost use Rattle.log_front.specs.Front.{end_of};
+ghost use Rattle.log_prefix.specs.Front.{end_of};
 ghost use Rattle.log_records.specs.Log.{IsPageCount, log_bytes};
 
 use crate::chance::Chance;
@@ -14,7 +14,7 @@ use aries_core::{Engine, Setup};
 use engine_restart::{Restarted, log_in, restart, store_of};
 use file_devices::FileLog;
 use fuzzy_ckpt::LogCheckpoints;
-use log_front::Front;
+use log_prefix::Front;
 use log_store::Master;
 use page_core::{MAX_PAGES, zeros};
 use page_store::MemStore;

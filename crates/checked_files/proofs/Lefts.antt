@@ -9,14 +9,14 @@ use Rattle.std.specs.Io.KnownBytes.{Appends}
 use Rattle.manifest.specs.Entries.{Noted, file_of}
 use Rattle.manifest.specs.Sums.{IsSumOf}
 use Rattle.manifest.proofs.Public.{noted_known, others_kept}
-use Rattle.copy_archives.specs.Archive.{archive_bytes}
-use Rattle.image_copies.specs.Copy.{CopyView}
+use Rattle.copy_vault.specs.Archive.{archive_bytes}
+use Rattle.copy_vault.specs.Copy.{CopyView}
 use Rattle.copy_vault.specs.Vault.{CopyState, complete_of, dropped, state_of}
 use Rattle.copy_coverage.specs.Retired.{IsRetired, RetiredView}
 use Rattle.saved_files.specs.declared.saved_name.SavedName.{SavedName}
 use Rattle.saved_files.specs.declared.saved_name.SavedName.TheVariants.{Log, Master, Copy}
 use Rattle.saved_files.specs.Saved.{Parts, name_of, parts_of, place_of}
-use Rattle.checked_files.specs.Left.{AreNoted, AreNotedBefore, Notes, NotesNoOther, NotesNoOtherBefore, extent_of}
+use Rattle.checked_files.specs.Left.{AreNoted, AreNotedBefore, Notes, NotesNoOther, NotesNoOtherBefore}
 
 -- ---- the names
 
@@ -87,7 +87,7 @@ noted_more parts at all old new end few is asked before put name bytes here lt =
             file = put.file;
             there = ap (λ (a : SavedName). file_of (name_of a) new) same ∙ ap (file_of (name_of at)) put.added
                 ∙ noted_known (record { name = name_of at; file = put.file }) old;
-            extent = put.extent ∙ ap extent_of (sym same);
+            extent = put.extent;
             sum = subst (IsSumOf put.file.sum put.file.bytes) (put.right ∙ equal) put.sum;
           }
     ]

@@ -13,12 +13,13 @@ use Rattle.log_records.proofs.Public.{length-log}
 use Rattle.log_store.specs.declared.master.Master.{Master}
 use Rattle.log_store.specs.Master.{SpellsMaster}
 use Rattle.log_store.proofs.Public.{length-master_bytes}
-use Rattle.copy_archives.specs.declared.header.ArchiveHeader.{ArchiveHeader}
-use Rattle.copy_archives.specs.Archive.{IsKindOf, SpellsCopy, header_bytes, header_in, header_of}
-use Rattle.copy_archives.specs.ChainReading.{SpellCopies}
-use Rattle.image_copies.specs.declared.copy_id.CopyKind.{CopyKind}
-use Rattle.image_copies.specs.declared.copy_id.CopyKind.TheVariants.{Full, Inc}
-use Rattle.image_copies.specs.Copy.{CopyView, taken_pages}
+use Rattle.copy_vault.specs.declared.header.ArchiveHeader.{ArchiveHeader}
+use Rattle.copy_vault.specs.Archive.{IsKindOf, SpellsCopy, header_bytes, header_in, header_of}
+use Rattle.copy_vault.specs.ChainReading.{SpellCopies}
+use Rattle.copy_vault.specs.declared.copy_id.CopyKind.{CopyKind}
+use Rattle.copy_vault.specs.declared.copy_id.CopyKind.TheVariants.{Full, Inc}
+use Rattle.page_decisions.specs.Decisions.{taken_pages}
+use Rattle.copy_vault.specs.Copy.{CopyView}
 use Rattle.page_core.specs.declared.page.Page.{Page}
 use Rattle.page_core.specs.Page.{IsPage, page_bytes, volume_bytes}
 use Rattle.page_core.proofs.Public.{length-page_bytes}

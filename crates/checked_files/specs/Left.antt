@@ -1,25 +1,23 @@
 -- What a manifest says of the files that an engine leaves.
-use Rattle.std.specs.Prelude.{ℕ, ◌≡◌, ◌<◌, List, None, Some}
-use Rattle.manifest.specs.declared.entry.Extent.{Extent}
-use Rattle.manifest.specs.declared.entry.Extent.TheVariants.{First, Whole}
+use Rattle.std.specs.Prelude.{ℕ, ◌≡◌, ◌<◌, List, None, Some, codes}
+use Rattle.manifest.specs.declared.entry.Extent.TheVariants.{Whole}
 use Rattle.manifest.specs.declared.entry.FileSum.{FileSum}
 use Rattle.manifest.specs.Entries.{Noted, file_of, noted}
 use Rattle.manifest.specs.Sums.{IsSumOf}
 use Rattle.saved_files.specs.declared.saved_name.SavedName.{SavedName}
-use Rattle.saved_files.specs.declared.saved_name.SavedName.TheVariants.{Log, Master, Copy}
 use Rattle.saved_files.specs.Saved.{IsNone, IsNoneBefore, Parts, name_of, place_of}
 
--- a log may grow, so its first bytes are named; of each other file all are
-abbrev pub extent_of : SavedName → Extent
-extent_of Log = First
-extent_of Master = Whole
-extent_of (Copy id) = Whole
+-- all of the log is named, as of saved files; of a database, whose log grows, the first bytes are
+pub record NamesAllOfLog (entries : List Noted) : Type 0 where
+  pub file : FileSum
+  pub there : file_of (codes "log") entries ≡ Some file
+  pub extent : file.extent ≡ Whole
 
--- under its name a file of these bytes is noted
+-- under its name a file of these bytes is noted, all of it
 pub record IsNotedAs (bytes : List ℕ) (name : SavedName) (entries : List Noted) : Type 0 where
   pub file : FileSum
   pub there : file_of (name_of name) entries ≡ Some file
-  pub extent : file.extent ≡ extent_of name
+  pub extent : file.extent ≡ Whole
   pub sum : IsSumOf file.sum file.bytes bytes
 
 -- each file before this place is noted
@@ -41,11 +39,11 @@ NotesNoOtherBefore parts end entries =
 abbrev pub NotesNoOther : Parts → List Noted → Type 0
 NotesNoOther parts entries = (n : List ℕ) → IsNone parts n → file_of n entries ≡ None
 
--- a file of such bytes is noted under its name
+-- a file of such bytes is noted under its name, all of it
 pub record Notes (name : SavedName) (fits : List ℕ → Type 0) (old new : List Noted) : Type 0 where
   pub bytes : List ℕ
   pub right : fits bytes
   pub file : FileSum
-  pub extent : file.extent ≡ extent_of name
+  pub extent : file.extent ≡ Whole
   pub sum : IsSumOf file.sum file.bytes bytes
   pub added : new ≡ noted (record { name = name_of name; file = file }) old

@@ -1,10 +1,10 @@
-//! The manifest of what an engine leaves.
+//! The manifest of what an engine leaves, and how it is told from that of a database.
 
-ghost use Rattle.std.specs.Prelude.{◌≡◌, ℕ, List, IfOk, OnOk};
+ghost use Rattle.std.specs.Prelude.{◌≡◌, ◌↔◌, ℕ, List, IfOk, IsTrue, OnOk};
 ghost use Rattle.manifest.specs.Sums.{IsSumOf};
 ghost use Rattle.saved_files.specs.PutFault.{bytes_by};
 ghost use Rattle.saved_files.specs.Saved.{parts_of};
-ghost use Rattle.checked_files.specs.Left.{AreNoted, Notes, NotesNoOther, extent_of};
+ghost use Rattle.checked_files.specs.Left.{AreNoted, NamesAllOfLog, Notes, NotesNoOther};
 
 use copy_coverage::Retired;
 use copy_vault::{CopyId, MAX_COPIES};
@@ -12,9 +12,12 @@ use manifest::{DatabaseName, Extent, FileSum, Manifest, Sum, Sums};
 use saved_files::{FileFault, SavedName, Source};
 use std::alloc::{AllocError, Global};
 
-/// The manifest of the files that `save_files` saves of what an engine leaves: the log, which may
-/// grow, the master record if there is one, and each complete copy. It is made of what is in
-/// memory; each file is so for a moment. `AllocError` comes where memory is refused.
+/// The name that a log has in a manifest.
+const LOG: &str = "log";
+
+/// The manifest of the files that `save_files` saves of what an engine leaves: the log, the master
+/// record if there is one, and each complete copy, all of each. It is made of what is in memory;
+/// each file is so for a moment. `AllocError` comes where memory is refused.
 pub fn manifest_of(
     alloc: Global,
     database: DatabaseName,
@@ -38,6 +41,17 @@ pub fn manifest_of(
     Ok(manifest)
 }
 
+/// Whether a manifest is one of saved files: it names all of their log. The manifest of a database
+/// names the first bytes of its log, which grows.
+pub fn is_of_saved_files(manifest: &Manifest) -> bool
+    ensures { IsTrue result ↔ NamesAllOfLog manifest.now.entries }
+{
+    match manifest.entry(LOG) {
+        Some(log) => log.extent == Extent::Whole,
+        None => false,
+    }
+}
+
 /// Notes a file under its name.
 fn note_file<S: Source<Fault = FileFault> + Drop>(
     manifest: &mut Manifest,
@@ -52,23 +66,13 @@ fn note_file<S: Source<Fault = FileFault> + Drop>(
     let name = format!(in alloc; "{file}")?;
     let (sum, bytes) = sum_of_source(alloc, source)?;
     let known = FileSum {
-        extent: extent_of(file),
+        extent: Extent::Whole,
         bytes,
         sum,
     };
     match manifest.note(name.as_str(), known) {
         Ok(()) => Ok(()),
         Err(_) => Err(AllocError),
-    }
-}
-
-/// How much of a file is summed: a log may grow.
-fn extent_of(file: SavedName) -> Extent
-    ensures { result ≡ extent_of file }
-{
-    match file {
-        SavedName::Log => Extent::First,
-        SavedName::Master | SavedName::Copy(_) => Extent::Whole,
     }
 }
 

@@ -16,5 +16,5 @@ pub use laws::{
     audited_files_are_named, left_aside_for_a_reason, named_files_are_one, named_files_fit,
     restored_files_are_named,
 };
-pub use left_manifest::manifest_of;
+pub use left_manifest::{is_of_saved_files, manifest_of};
 pub use manifest_text::ManifestText;

@@ -202,7 +202,7 @@ gives_taken : (words : List Text) (command : Command) → (IsSomeAnd (slice_get 
     → Gives words command → IsTaken words
 gives_taken words Redo other gives = (0, redo_app, lit< tt, refl, gives)
 gives_taken words (RedoInto output force until) other gives = (4, redo_into_app, lit< tt, refl, gives.0)
-gives_taken words (Run pages frames save strict force) other gives = (1, run_app, lit< tt, refl, gives.0)
+gives_taken words (Run pages frames save manifest strict force) other gives = (1, run_app, lit< tt, refl, gives.0)
 gives_taken words (Open folder pages frames salvage strict) other gives = (5, open_app, lit< tt, refl, gives.0)
 gives_taken words (Restore log master archives output log_output force until manifest no_manifest) other gives =
     (2, restore_app, lit< tt, refl, gives.0)

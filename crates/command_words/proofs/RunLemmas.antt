@@ -11,22 +11,33 @@ use Rattle.command_words.proofs.ViewLemmas.{passes_number}
 use Rattle.command_words.proofs.ChainLemmas.{count_in_chain, none_apart, number_in_chain, one_more_apart}
 
 abbrev asked : (cmd : Parser) → AsksForPages cmd → List Arg
-asked cmd it = it.pages ∷ it.frames ∷ it.save ∷ it.strict ∷ it.force ∷ []
+asked cmd it = it.pages ∷ it.frames ∷ it.save ∷ it.manifest ∷ it.strict ∷ it.force ∷ []
 
 asked_apart : (cmd : Parser) (it : AsksForPages cmd) → HasDistinctIds (asked cmd it)
 asked_apart cmd it =
     let pages : length it.pages.id.now ≡ 5 = ap (λ r. length r.id) it.pages_is in
     let frames : length it.frames.id.now ≡ 6 = ap (λ r. length r.id) it.frames_is in
     let save : length it.save.id.now ≡ 4 = ap (λ r. length r.id) it.save_is in
+    let manifest : length it.manifest.id.now ≡ 8 = ap (λ r. length r.id) it.manifest_is in
     let strict : length it.strict.id.now ≡ 9 = ap (λ r. length r.id) it.strict_is in
     let force : length it.force.id.now ≡ 10 = ap (λ r. length r.id) it.force_is in
-    one_more_apart it.pages (it.frames ∷ it.save ∷ it.strict ∷ it.force ∷ [])
+    one_more_apart it.pages (it.frames ∷ it.save ∷ it.manifest ∷ it.strict ∷ it.force ∷ []) (
+      (λ same. omega arith),
+      (
+        (λ same. omega arith),
+        (
+          (λ same. omega arith),
+          ((λ same. omega arith), ((λ same. omega arith), tt)),
+        ),
+      ),
+    )
+    (one_more_apart it.frames (it.save ∷ it.manifest ∷ it.strict ∷ it.force ∷ [])
     ((λ same. omega arith), ((λ same. omega arith), ((λ same. omega arith), ((λ same. omega arith), tt))))
-    (one_more_apart it.frames (it.save ∷ it.strict ∷ it.force ∷ [])
+    (one_more_apart it.save (it.manifest ∷ it.strict ∷ it.force ∷ [])
     ((λ same. omega arith), ((λ same. omega arith), ((λ same. omega arith), tt)))
-    (one_more_apart it.save (it.strict ∷ it.force ∷ []) ((λ same. omega arith), ((λ same. omega arith), tt))
+    (one_more_apart it.manifest (it.strict ∷ it.force ∷ []) ((λ same. omega arith), ((λ same. omega arith), tt))
     (one_more_apart it.strict (it.force ∷ []) ((λ same. omega arith), tt)
-    (one_more_apart it.force [] tt none_apart))))
+    (one_more_apart it.force [] tt none_apart)))))
 
 -- the number of pages
 pub pages_passed : (cmd : Parser) (m : ArgMatches) → AsksForPages cmd → IsParsedFrom cmd m → PassesPages (found_of m)

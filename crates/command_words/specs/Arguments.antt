@@ -14,6 +14,7 @@ use Rattle.command_words.specs.Command.{file_rule, folder_rule, force_rule, fram
 use Rattle.command_words.specs.Command.{full_rule, into_rule, json_rule, log_output_rule, log_rule}
 use Rattle.command_words.specs.Command.{manifest_rule, master_rule, no_manifest_rule, old_rule, on_rule, output_rule, page_rule}
 use Rattle.command_words.specs.Command.{pages_rule, renewed_rule, salvage_rule, save_rule}
+use Rattle.command_words.specs.Command.{saved_manifest_rule}
 use Rattle.command_words.specs.Command.{commits_rule, copy_rule, lsn_parser, strict_rule, to_rule}
 use Rattle.command_words.specs.Command.{told_pages_rule, txn_rule, until_rule}
 
@@ -27,17 +28,19 @@ pub record IsMadeOf (command : Parser) (arguments : List Arg) : Type 0 where
   pub chain : AddsInTurn AddsArg start arguments command
   pub fit : All FitsChain arguments
 
--- the number of pages is required, and then that of frames, a folder and two flags may be told
+-- the number of pages is required, and then that of frames, a folder and three flags may be told
 pub record AsksForPages (command : Parser) : Type 0 where
   pub pages : Arg
   pub frames : Arg
   pub save : Arg
+  pub manifest : Arg
   pub strict : Arg
   pub force : Arg
-  pub made : IsMadeOf command (pages ∷ frames ∷ save ∷ strict ∷ force ∷ [])
+  pub made : IsMadeOf command (pages ∷ frames ∷ save ∷ manifest ∷ strict ∷ force ∷ [])
   pub pages_is : rule_of pages ≡ pages_rule
   pub frames_is : rule_of frames ≡ frames_rule
   pub save_is : rule_of save ≡ save_rule
+  pub manifest_is : rule_of manifest ≡ saved_manifest_rule
   pub strict_is : rule_of strict ≡ strict_rule
   pub force_is : rule_of force ≡ force_rule
   pub required : TakesValue pages

@@ -96,17 +96,24 @@ save_rule = record (new_rule (codes "save")) {
   value_names = 1;
 }
 
+-- the files that are saved get a manifest
+abbrev pub saved_manifest_rule : Rule
+saved_manifest_rule = record (new_rule (codes "manifest")) {
+  long = Some (codes "manifest");
+  action = Some SetTrue;
+}
+
 abbrev pub strict_rule : Rule
 strict_rule = record (new_rule (codes "is_strict")) {
   long = Some (codes "strict");
   action = Some SetTrue;
 }
 
--- `run --pages N [--frames B] [--save FOLDER] [--strict] [--force]`
+-- `run --pages N [--frames B] [--save FOLDER] [--manifest] [--strict] [--force]`
 abbrev pub run_app : App
-run_app = with_rule (with_rule
+run_app = with_rule (with_rule (with_rule
     (with_rule (with_rule (with_rule (new_app (codes "run")) pages_rule) frames_rule) save_rule)
-    strict_rule) force_rule
+    saved_manifest_rule) strict_rule) force_rule
 
 abbrev pub log_rule : Rule
 log_rule = record (new_rule (codes "log")) {
@@ -373,10 +380,11 @@ Gives words (RedoInto output force until) = let rows = matches_of redo_into_app 
     × (option_map (λ name. name.now) output ≡ first_of (codes "into") rows)
     × IsFlag (one_of (codes "with_force") rows) force
     × IsTold (one_of (codes "until_lsn") rows) until
-Gives words (Run pages frames save strict force) = let rows = matches_of run_app words in
+Gives words (Run pages frames save manifest strict force) = let rows = matches_of run_app words in
     IsTakenBy words run_app × IsNumberRead (one_of (codes "pages") rows) pages
     × IsFramesRead (one_of (codes "frames") rows) frames
     × (option_map (λ name. name.now) save ≡ first_of (codes "save") rows)
+    × IsFlag (one_of (codes "manifest") rows) manifest
     × IsFlag (one_of (codes "is_strict") rows) strict
     × IsFlag (one_of (codes "with_force") rows) force
 Gives words (Open folder pages frames salvage strict) = let rows = matches_of open_app words in
@@ -444,7 +452,7 @@ Gives words Version = IsSomeAnd (slice_get words 0) AsksForVersion
 abbrev pub HasCounts : Command → Type 0
 HasCounts Redo = Unit {0}
 HasCounts (RedoInto output force until) = Unit {0}
-HasCounts (Run pages frames save strict force) =
+HasCounts (Run pages frames save manifest strict force) =
     (1 ≤ pages) × (pages ≤ 65536) × (1 ≤ frames) × (frames ≤ 65536)
 HasCounts (Open folder pages frames salvage strict) =
     IfSome pages (λ n. (1 ≤ n) × (n ≤ 65536)) × (1 ≤ frames) × (frames ≤ 65536)

@@ -12,7 +12,7 @@ ghost use Rattle.command_words.specs.Command.{audited_master_rule, count_parser,
 ghost use Rattle.command_words.specs.Command.{frames_rule};
 ghost use Rattle.command_words.specs.Command.{log_output_rule, log_rule, master_rule, output_rule};
 ghost use Rattle.command_words.specs.Command.{pages_rule, redo_app, redo_into_app, restore_app};
-ghost use Rattle.command_words.specs.Command.{run_app, save_rule, strict_rule};
+ghost use Rattle.command_words.specs.Command.{run_app, save_rule, saved_manifest_rule, strict_rule};
 ghost use Rattle.command_words.specs.declared.command.UsageFault.TheVariants.{OutOfMemory};
 
 use crate::command::UsageFault;
@@ -112,14 +112,20 @@ pub(crate) fn audit_matches<'a, S: AsStr>(
 
 // The usage of each shows the program's name before the command's, and what it reads and writes.
 
+const REDO_ABOUT: &str = "Write the volume that the log on standard input makes\n\n\
+    A terminal gets no volume (E29), unless -o - says so";
+
 const REDO_USAGE: &str =
-    "imgcopy redo [--until <LSN>] < LOG > VOLUME\n       imgcopy redo -o <FILE> [--force] [--until <LSN>] < LOG";
+    "imgcopy redo [-o -] [--until <LSN>] < LOG > VOLUME\n       imgcopy redo -o <FILE> [--force] [--until <LSN>] < LOG";
 
 const RUN_USAGE: &str = "imgcopy run --pages <N> [OPTIONS] < SCRIPT";
 
 pub(crate) const RESTORE_ABOUT: &str = "Write the volume that a log and image copies restore\n\n\
     A FOLDER stands for the files in it: the newest copy that is whole is taken, with those that it\n\
-    stands on, or copy N is, by --copy <N>";
+    stands on, or copy N is, by --copy <N>\n\n\
+    A file that the manifest beside it names has to be that file. Where no manifest stands, no file\n\
+    is compared, and nothing says so: imgcopy audit finds a copy of another log\n\n\
+    A terminal gets no volume (E29), unless -o - says so";
 
 /// The usage of `restore`, a line for each of its forms.
 pub const RESTORE_USAGE: &str =
@@ -133,7 +139,7 @@ fn redo_command<'a>(alloc: Global) -> Result<clap::Command<'a>, AllocError>
     ensures { IfOk result (λ it. app_of it ≡ redo_app) }
 {
     clap::Command::new(alloc, "redo")
-        .about("Write the volume that the log on standard input makes")
+        .about(REDO_ABOUT)
         .bin_name("imgcopy redo")
 }
 
@@ -142,7 +148,7 @@ fn redo_into_command<'a>(alloc: Global) -> Result<clap::Command<'a>, AllocError>
     ensures made { IfOk result AsksForOutput }
 {
     clap::Command::new(alloc, "redo")
-        .about("Write the volume that the log on standard input makes")
+        .about(REDO_ABOUT)
         .override_usage(REDO_USAGE)
         .bin_name("imgcopy redo")?
         .arg(output_arg(alloc))?
@@ -161,8 +167,9 @@ fn run_command<'a>(alloc: Global) -> Result<clap::Command<'a>, AllocError>
         .arg(pages_arg(alloc))?
         .arg(frames_arg(alloc))?
         .arg(save_arg(alloc))?
+        .arg(saved_manifest_arg(alloc))?
         .arg(strict_arg(alloc))?
-        .arg(force_arg(alloc))
+        .arg(save_force_arg(alloc))
 }
 
 fn restore_command<'a>(alloc: Global) -> Result<clap::Command<'a>, AllocError>
@@ -240,6 +247,23 @@ fn save_arg<'a>(alloc: Global) -> Arg<'a>
         .action(ArgAction::Set)
 }
 
+fn saved_manifest_arg<'a>(alloc: Global) -> Arg<'a>
+    ensures rule { rule_of result ≡ saved_manifest_rule }
+    ensures fits { FitsChain result }
+{
+    Arg::new(alloc, "manifest")
+        .long("manifest")
+        .help("Write a manifest of these files, too: restore and audit compare with it")
+        .action(ArgAction::SetTrue)
+}
+
+fn save_force_arg<'a>(alloc: Global) -> Arg<'a>
+    ensures rule { rule_of result ≡ force_rule }
+    ensures fits { FitsChain result }
+{
+    force_with(alloc, "Save into the folder of a database, too")
+}
+
 pub(crate) fn strict_arg<'a>(alloc: Global) -> Arg<'a>
     ensures rule { rule_of result ≡ strict_rule }
     ensures fits { FitsChain result }
@@ -254,9 +278,19 @@ pub(crate) fn force_arg<'a>(alloc: Global) -> Arg<'a>
     ensures rule { rule_of result ≡ force_rule }
     ensures fits { FitsChain result }
 {
+    force_with(
+        alloc,
+        "Let an output replace a log, a master record, an image copy or an input",
+    )
+}
+
+fn force_with<'a>(alloc: Global, help: &'a str) -> Arg<'a>
+    ensures rule { rule_of result ≡ force_rule }
+    ensures fits { FitsChain result }
+{
     Arg::new(alloc, "with_force")
         .long("force")
-        .help("Let an output replace a log, a master record, an image copy or an input")
+        .help(help)
         .action(ArgAction::SetTrue)
 }
 
@@ -268,7 +302,9 @@ pub(crate) fn output_arg<'a>(alloc: Global) -> Arg<'a>
         .short('o')
         .long("output")
         .value_name("FILE")
-        .help("Write the volume to this file, which is put in place once it is whole and synced")
+        .help(
+            "Write the volume to this file, put in place when whole and synced; - is standard output",
+        )
         .action(ArgAction::Set)
 }
 

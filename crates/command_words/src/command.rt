@@ -36,8 +36,9 @@ pub enum Command<'a> {
     /// To redo the log on standard input.
     Redo,
     /// The same, of the log up to the record at an LSN, if one is told. The volume goes into this
-    /// file, if one is named. With force it replaces a file that is kept else, as in the other
-    /// commands that write files. An LSN is at most 67,108,928, here and below.
+    /// file, if one is named, or to standard output by the name `-`, here and below. With force it
+    /// replaces a file that is kept else, as in the other commands that write files. An LSN is at
+    /// most 67,108,928, here and below.
     RedoInto {
         output: Option<&'a str>,
         force: bool,
@@ -45,11 +46,13 @@ pub enum Command<'a> {
     },
     /// To play the script on standard input on a volume of so many pages, with memory for so many
     /// of them at a time, each 1 to 65,536. The log, the master record and the copies go into the
-    /// folder, if one is named. If it is strict, a refused call is told at the end.
+    /// folder, if one is named, and then a manifest of these, if one is asked for. If it is strict, a
+    /// refused call is told at the end.
     Run {
         pages: u32,
         frames: u32,
         save: Option<&'a str>,
+        manifest: bool,
         strict: bool,
         force: bool,
     },
@@ -392,12 +395,14 @@ fn run_of<'a, S: AsStr>(alloc: Global, words: &'a [S]) -> Result<Command<'a>, Us
     let pages = pages_in(&matches);
     let frames = frames_in(&matches);
     let save = matches.get_str("save");
+    let manifest = matches.get_flag("manifest");
     let strict = matches.get_flag("is_strict");
     let force = matches.get_flag("with_force");
     Ok(Command::Run {
         pages,
         frames,
         save,
+        manifest,
         strict,
         force,
     })

@@ -26,6 +26,6 @@ pub(crate) fn no_manifest_arg<'a>(alloc: Global) -> Arg<'a>
 {
     Arg::new(alloc, "without_sums")
         .long("no-manifest")
-        .help("Look at no manifest")
+        .help("Look at no manifest: the files are not compared")
         .action(ArgAction::SetTrue)
 }

@@ -12,17 +12,18 @@ use Rattle.log_store.specs.declared.fault.LogReadFault.{LogReadFault}
 use Rattle.log_store.specs.declared.fault.LogReadFault.TheVariants as log
 use Rattle.log_store.specs.Fault.{Refuses}
 use Rattle.log_store.proofs.Public.{none_in_log}
-use Rattle.copy_archives.specs.declared.chain_read_fault.ChainReadFault.{ChainReadFault}
-use Rattle.copy_archives.specs.declared.chain_read_fault.ChainReadFault.TheVariants as chain
-use Rattle.copy_archives.specs.Archive.{IsArchived, archive_bytes}
-use Rattle.image_copies.specs.Chain.{IsChain}
-use Rattle.copy_archives.specs.ChainRead.{AreBelow}
-use Rattle.copy_archives.specs.ChainReading.{AreNoChain, IsFromOutside, IsRightChain, SpellCopies, archives_of}
-use Rattle.image_copies.specs.Copy.{CopyView, taken_pages}
+use Rattle.copy_vault.specs.declared.chain_read_fault.ChainReadFault.{ChainReadFault}
+use Rattle.copy_vault.specs.declared.chain_read_fault.ChainReadFault.TheVariants as chain
+use Rattle.copy_vault.specs.Archive.{IsArchived, archive_bytes}
+use Rattle.copy_vault.specs.Chain.{IsChain}
+use Rattle.copy_vault.specs.ChainRead.{AreBelow}
+use Rattle.copy_vault.specs.ChainReading.{AreNoChain, IsFromOutside, IsRightChain, SpellCopies, archives_of}
+use Rattle.page_decisions.specs.Decisions.{taken_pages}
+use Rattle.copy_vault.specs.Copy.{CopyView}
 use Rattle.page_core.specs.declared.format.Format.TheVariants.{Second}
-use Rattle.copy_archives.proofs.Public.{same_copy}
-use Rattle.copy_archives.proofs.Public.{not_stopped, not_unmade}
-use Rattle.image_copies.proofs.Public.{some_members}
+use Rattle.copy_vault.proofs.Public.{same_copy}
+use Rattle.copy_vault.proofs.Public.{not_stopped, not_unmade}
+use Rattle.copy_vault.proofs.Public.{some_members}
 use Rattle.copy_audit.specs.declared.unsound.Unsound as fault
 use Rattle.copy_audit.specs.Audit.{AreCovering, IsAudited, IsFirstUnsound, chain_to, end_of}
 use Rattle.copy_audit.specs.AuditFault.{IsOutside, NamesNoPage, of_chain, of_log}

@@ -13,11 +13,12 @@ use Rattle.page_core.specs.Page.{formatted}
 use Rattle.log_records.specs.declared.record.Record.{Record}
 use Rattle.log_records.specs.Coverage.{Covers}
 use Rattle.log_records.specs.Log.{Log, page_count}
-use Rattle.copy_archives.specs.ChainEach.{place_list}
-use Rattle.image_copies.specs.Chain.{content, last_of, last_redo, takings}
-use Rattle.image_copies.specs.Chain.{row, rows}
-use Rattle.copy_archives.specs.ChainReading.{AreWithinLog}
-use Rattle.image_copies.specs.Copy.{CopyView, decision_at, page_of}
+use Rattle.copy_vault.specs.ChainEach.{place_list}
+use Rattle.copy_vault.specs.Chain.{content, last_of, last_redo, takings}
+use Rattle.copy_vault.specs.Chain.{row, rows}
+use Rattle.copy_vault.specs.ChainReading.{AreWithinLog}
+use Rattle.page_decisions.specs.Decisions.{decision_at, page_of}
+use Rattle.copy_vault.specs.Copy.{CopyView}
 use Rattle.copy_audit.specs.declared.found.Found.{Found}
 use Rattle.copy_audit.specs.Audit.{IsAudited, IsFirstUnsound, IsSoundAt, chain_to, end_of}
 use Rattle.copy_audit.specs.declared.reach.Reach.{Reach}

@@ -7,10 +7,10 @@ use Rattle.log_records.specs.Log.{Log, lsn_of}
 use Rattle.log_records.proofs.Public.{last_count-counts_of}
 use Rattle.loser_undo.specs.Kept.{Kept}
 use Rattle.page_core.specs.PageCounts.{last_count}
-use Rattle.copy_archives.specs.declared.chain_reader.ChainReader.{ChainReader}
-use Rattle.copy_archives.specs.ChainEach.{IsEachRead, IsReadingEach, ids_of, place_list, points_of}
-use Rattle.image_copies.specs.Chain.{rows}
-use Rattle.copy_archives.specs.ChainReading.{AreWithinLog}
+use Rattle.copy_vault.specs.declared.chain_reader.ChainReader.{ChainReader}
+use Rattle.copy_vault.specs.ChainEach.{IsEachRead, IsReadingEach, ids_of, place_list, points_of}
+use Rattle.copy_vault.specs.Chain.{rows}
+use Rattle.copy_vault.specs.ChainReading.{AreWithinLog}
 use Rattle.copy_audit.specs.declared.all_pages.UnsoundPages.{UnsoundPages}
 use Rattle.copy_audit.specs.Audit.{end_of}
 use Rattle.copy_audit.specs.Changes.{IsKeptOf}

@@ -4,10 +4,10 @@ use Rattle.std.specs.Prelude.{slice_index_or}
 use Rattle.log_records.specs.Coverage.{Covers}
 use Rattle.log_records.specs.Log.{IsLog, Log, SpellsLog, counts_of, lsn_of, page_count}
 use Rattle.log_rules.specs.Linked.{IsLinked}
-use Rattle.image_copies.specs.declared.copy_id.CopyKind.TheVariants.{Full}
-use Rattle.image_copies.specs.Chain.{FitFrom, content, last_redo}
-use Rattle.copy_archives.specs.ChainReading.{AreWithinLog, SpellCopies}
-use Rattle.image_copies.specs.Copy.{CopyView}
+use Rattle.copy_vault.specs.declared.copy_id.CopyKind.TheVariants.{Full}
+use Rattle.copy_vault.specs.Chain.{FitFrom, content, last_redo}
+use Rattle.copy_vault.specs.ChainReading.{AreWithinLog, SpellCopies}
+use Rattle.copy_vault.specs.Copy.{CopyView}
 
 -- ---- a log and the archives of its copies
 

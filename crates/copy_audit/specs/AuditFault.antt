@@ -5,8 +5,8 @@ use Rattle.page_core.specs.FaultName.{fault_line, fault_line_with}
 use Rattle.page_core.specs.declared.fault_name.FaultName.TheVariants as name
 use Rattle.log_store.specs.declared.fault.LogReadFault.{LogReadFault}
 use Rattle.log_store.specs.declared.fault.LogReadFault.TheVariants as log
-use Rattle.copy_archives.specs.declared.chain_read_fault.ChainReadFault.{ChainReadFault}
-use Rattle.copy_archives.specs.declared.chain_read_fault.ChainReadFault.TheVariants as chain
+use Rattle.copy_vault.specs.declared.chain_read_fault.ChainReadFault.{ChainReadFault}
+use Rattle.copy_vault.specs.declared.chain_read_fault.ChainReadFault.TheVariants as chain
 use Rattle.copy_audit.specs.declared.unsound.Unsound as fault
 use Rattle.copy_audit.specs.declared.unsound.Unsound.TheVariants.{OutOfMemory, BadHeader, BadRecord}
 use Rattle.copy_audit.specs.declared.unsound.Unsound.TheVariants.{Torn, ReadFault, TooLong}

@@ -5,10 +5,10 @@ use Rattle.page_core.specs.Input.{HasGivenAll}
 use Rattle.log_records.specs.Log.{Log, counts_of}
 use Rattle.log_store.specs.declared.fault.LogReadFault.{LogReadFault}
 use Rattle.log_store.specs.Fault.{GaveNoFault, Refuses}
-use Rattle.copy_archives.specs.declared.chain_read_fault.ChainReadFault.{ChainReadFault}
-use Rattle.image_copies.specs.Chain.{IsChain}
-use Rattle.copy_archives.specs.ChainReading.{AreNoChain, HaveGivenAll}
-use Rattle.image_copies.specs.Copy.{CopyView}
+use Rattle.copy_vault.specs.declared.chain_read_fault.ChainReadFault.{ChainReadFault}
+use Rattle.copy_vault.specs.Chain.{IsChain}
+use Rattle.copy_vault.specs.ChainReading.{AreNoChain, HaveGivenAll}
+use Rattle.copy_vault.specs.Copy.{CopyView}
 use Rattle.copy_audit.specs.declared.unsound.Unsound as fault
 use Rattle.copy_audit.specs.declared.unsound.Unsound.TheVariants.{OutOfMemory, Unsound}
 use Rattle.copy_audit.specs.Audit.{AreOfArchives, IsAudited, IsFirstUnsound, IsOfLog, end_of}

@@ -7,7 +7,7 @@ use Rattle.page_core.specs.declared.page.Page.{Page}
 use Rattle.page_core.specs.Page.{formatted}
 use Rattle.log_records.specs.declared.record.Record.{Record}
 use Rattle.log_records.specs.Coverage.{Covers}
-use Rattle.image_copies.specs.Chain.{last_of}
+use Rattle.copy_vault.specs.Chain.{last_of}
 use Rattle.copy_audit.specs.declared.found.Found.{Found}
 
 -- the page of the chain of so many copies, the first ones

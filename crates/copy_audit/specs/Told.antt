@@ -5,8 +5,8 @@ use Rattle.std.specs.Prelude.{Option, slice_index, slice_index_or}
 use Rattle.page_core.specs.declared.page.Page.{Page}
 use Rattle.log_records.specs.declared.record.Record.{Record}
 use Rattle.log_records.specs.Log.{Log, page_count}
-use Rattle.image_copies.specs.Chain.{IsChain}
-use Rattle.image_copies.specs.Copy.{CopyView}
+use Rattle.copy_vault.specs.Chain.{IsChain}
+use Rattle.copy_vault.specs.Copy.{CopyView}
 use Rattle.copy_audit.specs.declared.all_pages.TheConstants.{MOST_PAGES}
 use Rattle.copy_audit.specs.declared.all_pages.UnsoundPage.{UnsoundPage}
 use Rattle.copy_audit.specs.declared.all_pages.UnsoundPages.{UnsoundPages}

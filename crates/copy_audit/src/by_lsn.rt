@@ -2,7 +2,7 @@
 //! the pages are looked at in the order of their LSNs, so that each change is redone once.
 
 ghost use Rattle.std.specs.Prelude.{◌≡◌, ◌≤◌, ◌<◌, IfOk, IfSome, List, length, map};
-ghost use Rattle.copy_archives.specs.ChainEach.{place_list};
+ghost use Rattle.copy_vault.specs.ChainEach.{place_list};
 ghost use Rattle.log_records.specs.declared.record.Record.{Record};
 ghost use Rattle.copy_audit.specs.ByLsn.{AreSeen, HavePages};
 ghost use Rattle.copy_audit.specs.Changes.{AreChangesOf};

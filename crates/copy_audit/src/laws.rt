@@ -3,8 +3,8 @@
 ghost use Rattle.std.specs.Prelude.{ℕ, ◌≡◌, ◌<◌, List, Some, length};
 ghost use Rattle.log_records.specs.Log.{IsLog, Log, counts_of, log_bytes};
 ghost use Rattle.log_rules.specs.Linked.{IsLinked};
-ghost use Rattle.copy_archives.specs.ChainReading.{IsRightChain, archives_of};
-ghost use Rattle.image_copies.specs.Copy.{CopyView};
+ghost use Rattle.copy_vault.specs.ChainReading.{IsRightChain, archives_of};
+ghost use Rattle.copy_vault.specs.Copy.{CopyView};
 ghost use Rattle.copy_audit.specs.declared.unsound.Unsound as fault;
 ghost use Rattle.copy_audit.specs.Audit.{IsAudited, IsFirstUnsound, chain_to, end_of};
 ghost use Rattle.copy_audit.specs.AuditFault.{IsOutside};

@@ -1,7 +1,7 @@
 //! One page, as each member of a chain has it.
 
 ghost use Rattle.std.specs.Prelude.{◌≤◌, ◌<◌, List, length, map, IfOk, IfSome};
-ghost use Rattle.copy_archives.specs.ChainEach.{place_list};
+ghost use Rattle.copy_vault.specs.ChainEach.{place_list};
 ghost use Rattle.log_records.specs.declared.record.Record.{Record};
 ghost use Rattle.copy_audit.specs.Changes.{AreChangesOf};
 ghost use Rattle.copy_audit.specs.Rows.{IsFirstOf};

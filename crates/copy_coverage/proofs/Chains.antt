@@ -5,9 +5,9 @@ use Rattle.std.proofs.lemmas.List.{append_assoc, append-nil, reverse-append}
 use Rattle.log_records.specs.Coverage.{resume}
 use Rattle.log_records.specs.Image.{image}
 use Rattle.log_records.specs.Log.{IsLog, Log}
-use Rattle.image_copies.specs.Chain.{Follow, IsChain, content, last_redo}
+use Rattle.copy_vault.specs.Chain.{Follow, IsChain, content, last_redo}
 use Rattle.copy_vault.specs.ChainOf.{IsChainOf}
-use Rattle.image_copies.specs.Copy.{CopyView}
+use Rattle.copy_vault.specs.Copy.{CopyView}
 use Rattle.copy_vault.specs.Vault.{CopyState, complete, state_of}
 use Rattle.copy_coverage.specs.Copied.{AreRestorable, IsCovered, StandsOn}
 use Rattle.copy_coverage.specs.Kept.{IsKeptOf}

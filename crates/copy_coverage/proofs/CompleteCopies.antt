@@ -1,10 +1,10 @@
 -- A complete copy can be restored, by what holds of copies alone.
 use Rattle.std.proofs.Common.{◌≡◌, ℕ, zero, suc, ◌<◌, ◌≤◌, List, [], ◌∷◌, reverse, refl, sym, subst, arith}
 use Rattle.log_records.specs.Log.{IsLog, Log}
-use Rattle.image_copies.specs.declared.copy_id.CopyKind.{CopyKind}
-use Rattle.image_copies.specs.declared.copy_id.CopyKind.TheVariants.{Full, Inc}
-use Rattle.image_copies.specs.Chain.{content}
-use Rattle.image_copies.specs.Copy.{CopyView, IsComplete}
+use Rattle.copy_vault.specs.declared.copy_id.CopyKind.{CopyKind}
+use Rattle.copy_vault.specs.declared.copy_id.CopyKind.TheVariants.{Full, Inc}
+use Rattle.copy_vault.specs.Chain.{content}
+use Rattle.copy_vault.specs.Copy.{CopyView, IsComplete}
 use Rattle.copy_vault.specs.Vault.{CopyState, HasParent, complete, state_of}
 use Rattle.copy_coverage.specs.Copied.{AreRestorable, Restores, StandsOn}
 use Rattle.copy_coverage.specs.Kept.{IsKeptOf}

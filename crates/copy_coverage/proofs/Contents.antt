@@ -4,8 +4,9 @@ use Rattle.std.proofs.lemmas.List.{append-nil, reverse-append}
 use Rattle.std.proofs.lemmas.List.Concat.{flat_map-append}
 use Rattle.page_core.specs.declared.page.Page.{Page}
 use Rattle.page_core.specs.Page.{formatted}
-use Rattle.image_copies.specs.Chain.{content, last_of, takings}
-use Rattle.image_copies.specs.Copy.{CopyView, PageDecision, decision_at, page_of}
+use Rattle.copy_vault.specs.Chain.{content, last_of, takings}
+use Rattle.page_decisions.specs.Decisions.{PageDecision, decision_at, page_of}
+use Rattle.copy_vault.specs.Copy.{CopyView}
 
 last_of-append : (page : Page) (xs ys : List Page) → last_of page (xs ++ ys) ≡ last_of (last_of page xs) ys
 last_of-append page [] ys = refl

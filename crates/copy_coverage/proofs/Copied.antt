@@ -18,16 +18,18 @@ use Rattle.log_records.specs.Record.{own_lsn}
 use Rattle.log_records.proofs.Public.{covers_later}
 use Rattle.log_records.proofs.Public.{number-image}
 use Rattle.log_records.proofs.Public.{page_count_at-append}
-use Rattle.image_copies.specs.declared.copy_id.CopyKind.{CopyKind}
-use Rattle.image_copies.specs.declared.copy_id.CopyKind.TheVariants.{Full, Inc}
-use Rattle.image_copies.specs.declared.copy_id.TheConstants.{MAX_COPIES}
-use Rattle.image_copies.specs.declared.copy_id.Decision.{Decision}
-use Rattle.image_copies.specs.declared.copy_id.Decision.TheVariants.{Taken, Kept}
-use Rattle.image_copies.specs.Chain.{content}
-use Rattle.image_copies.specs.Copy.{AreDecidedBelow, AreInPlace, CopyView, KeepsOfParent, PageDecision, answer_of}
-use Rattle.image_copies.specs.Copy.{decided_by, decision_at, kept, least_undecided, new_copy, taken, undecided}
-use Rattle.image_copies.specs.Copy.{with_decision}
-use Rattle.image_copies.proofs.Public.{all_decided, none_counted}
+use Rattle.copy_vault.specs.declared.copy_id.CopyKind.{CopyKind}
+use Rattle.copy_vault.specs.declared.copy_id.CopyKind.TheVariants.{Full, Inc}
+use Rattle.copy_vault.specs.declared.copy_id.TheConstants.{MAX_COPIES}
+use Rattle.copy_vault.specs.declared.copy_id.Decision.{Decision}
+use Rattle.copy_vault.specs.declared.copy_id.Decision.TheVariants.{Taken, Kept}
+use Rattle.copy_vault.specs.Chain.{content}
+use Rattle.page_decisions.specs.Decisions.{AreDecidedBelow, AreInPlace, PageDecision}
+use Rattle.copy_vault.specs.Copy.{CopyView, KeepsOfParent, answer_of}
+use Rattle.page_decisions.specs.Decisions.{decision_at, kept, least_undecided, taken, undecided}
+use Rattle.copy_vault.specs.Copy.{decided_by, new_copy}
+use Rattle.copy_vault.specs.Copy.{with_decision}
+use Rattle.page_decisions.proofs.Public.{all_decided, none_counted}
 use Rattle.copy_vault.specs.Vault.{CopyState, HasParent, complete, decided, decided_in, dropped, opened, reading}
 use Rattle.copy_vault.specs.Vault.{redo_of}
 use Rattle.copy_vault.specs.Vault.{sealed, sealed_in, since_of, state_of, with_state, without}

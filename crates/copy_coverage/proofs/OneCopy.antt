@@ -8,11 +8,12 @@ use Rattle.std.proofs.lemmas.List.{get_or-set_other, get_or-set_same, get_or_app
 use Rattle.page_core.specs.declared.page.Page.{Page}
 use Rattle.log_records.specs.Coverage.{Covers}
 use Rattle.log_records.specs.Log.{Log}
-use Rattle.image_copies.specs.declared.copy_id.CopyKind.{CopyKind}
-use Rattle.image_copies.specs.declared.copy_id.CopyKind.TheVariants.{Full, Inc}
-use Rattle.image_copies.specs.declared.copy_id.TheConstants.{MAX_COPIES}
-use Rattle.image_copies.specs.Chain.{content}
-use Rattle.image_copies.specs.Copy.{AreDecidedBelow, CopyView}
+use Rattle.copy_vault.specs.declared.copy_id.CopyKind.{CopyKind}
+use Rattle.copy_vault.specs.declared.copy_id.CopyKind.TheVariants.{Full, Inc}
+use Rattle.copy_vault.specs.declared.copy_id.TheConstants.{MAX_COPIES}
+use Rattle.copy_vault.specs.Chain.{content}
+use Rattle.page_decisions.specs.Decisions.{AreDecidedBelow}
+use Rattle.copy_vault.specs.Copy.{CopyView}
 use Rattle.copy_vault.specs.Vault.{CopyState, HasParent, complete, dropped, reading, state_of, with_state}
 use Rattle.copy_vault.proofs.Public.{GoesOn, goes_on_push, goes_on_set}
 use Rattle.copy_coverage.specs.Copied.{AreCopied, IsCopyOf, IsCovered, IsDecidedIn, StandsOn, copy_in}

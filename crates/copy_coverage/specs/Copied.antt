@@ -7,12 +7,14 @@ use Rattle.log_records.specs.Coverage.{Covers, resume}
 use Rattle.log_records.specs.Image.{image}
 use Rattle.log_records.specs.Log.{Log, page_count_below}
 use Rattle.log_records.specs.Record.{IsLsn}
-use Rattle.image_copies.specs.declared.copy_id.CopyKind.{CopyKind}
-use Rattle.image_copies.specs.declared.copy_id.CopyKind.TheVariants.{Full, Inc}
-use Rattle.image_copies.specs.declared.copy_id.TheConstants.{MAX_COPIES}
-use Rattle.image_copies.specs.Chain.{content}
-use Rattle.image_copies.specs.Copy.{CopyView, PageDecision, decision_at, undecided}
-use Rattle.image_copies.specs.Copy.{AreDecidedBelow, AreInPlace, KeepsOfParent}
+use Rattle.copy_vault.specs.declared.copy_id.CopyKind.{CopyKind}
+use Rattle.copy_vault.specs.declared.copy_id.CopyKind.TheVariants.{Full, Inc}
+use Rattle.copy_vault.specs.declared.copy_id.TheConstants.{MAX_COPIES}
+use Rattle.copy_vault.specs.Chain.{content}
+use Rattle.page_decisions.specs.Decisions.{PageDecision, decision_at, undecided}
+use Rattle.copy_vault.specs.Copy.{CopyView}
+use Rattle.page_decisions.specs.Decisions.{AreDecidedBelow, AreInPlace}
+use Rattle.copy_vault.specs.Copy.{KeepsOfParent}
 use Rattle.copy_vault.specs.Vault.{CopyState, HasParent, reading, complete, dropped, state_of}
 
 -- the copies that one of this kind stands on, the last one first: its parent, the parent of that

@@ -7,7 +7,7 @@ use Rattle.log_rules.specs.Checkpoint.{IsCompleteCheckpoint}
 use Rattle.log_rules.specs.Linked.{IsLinked}
 use Rattle.log_rules.specs.Transactions.{owed}
 use Rattle.log_store.specs.declared.master.Master.{Master}
-use Rattle.image_copies.specs.Copy.{CopyView}
+use Rattle.copy_vault.specs.Copy.{CopyView}
 use Rattle.copy_vault.specs.Vault.{CopyState, complete, state_of}
 use Rattle.copy_coverage.specs.Copied.{AreRestorable}
 

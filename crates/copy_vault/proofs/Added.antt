@@ -5,12 +5,12 @@ use Rattle.std.specs.Prelude.{is_none}
 use Rattle.std.proofs.lemmas.Bool.{cases_lt}
 use Rattle.std.proofs.lemmas.List.{append-nil, append_assoc, get_or_append_left, get_or_past, length-map, length-append}
 use Rattle.std.proofs.lemmas.List.{length-replicate, map-append}
-use Rattle.image_copies.specs.declared.copy_id.CopyKind.{CopyKind}
-use Rattle.image_copies.specs.declared.copy_id.CopyKind.TheVariants.{Full, Inc}
+use Rattle.copy_vault.specs.declared.copy_id.CopyKind.{CopyKind}
+use Rattle.copy_vault.specs.declared.copy_id.CopyKind.TheVariants.{Full, Inc}
 use Rattle.copy_vault.specs.declared.vault.VaultEntry.{VaultEntry}
 use Rattle.copy_vault.specs.declared.vault.VaultEntry.TheVariants as entry
 use Rattle.copy_vault.specs.Added.{lacks_parent}
-use Rattle.image_copies.specs.Copy.{CopyView}
+use Rattle.copy_vault.specs.Copy.{CopyView}
 use Rattle.copy_vault.specs.Vault.{CopyState, HasParent, IsParent, IsVault, complete, complete_of, dropped, reading, state_in}
 use Rattle.copy_vault.proofs.Vaults.{vault_push}
 

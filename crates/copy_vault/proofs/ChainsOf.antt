@@ -2,9 +2,9 @@
 use Rattle.std.proofs.Common.{◌≡◌, ℕ, List, [], ◌∷◌, refl, sym, ap, ◌∙◌, subst}
 use Rattle.std.specs.Prelude.{Some, None}
 use Rattle.std.specs.List.{AllByRecursion}
-use Rattle.image_copies.specs.declared.copy_id.CopyKind.TheVariants.{Full, Inc}
-use Rattle.image_copies.specs.Copy.{CopyView, IsComplete}
-use Rattle.image_copies.specs.Chain.{Follow, IsChain}
+use Rattle.copy_vault.specs.declared.copy_id.CopyKind.TheVariants.{Full, Inc}
+use Rattle.copy_vault.specs.Copy.{CopyView, IsComplete}
+use Rattle.copy_vault.specs.Chain.{Follow, IsChain}
 use Rattle.copy_vault.specs.declared.fault.CopyFault.{CopyFault}
 use Rattle.copy_vault.specs.ChainOf.{IsChainOf}
 use Rattle.copy_vault.specs.Vault.{CopyState, HasParent, IsOfId, IsParent, complete, complete_refusal, state_of}

@@ -9,14 +9,15 @@ use Rattle.std.proofs.lemmas.List.{get_or_append_left, get_or_push, length_push}
 use Rattle.std.proofs.lemmas.List.{get_or_default, set-get_or}
 use Rattle.std.specs.Prelude.{Result, Ok, Err, IfOk, OnOk, OnErr, None, IsSome}
 use Rattle.page_core.specs.declared.page.Page.{Page}
-use Rattle.image_copies.specs.declared.copy_id.Decision.{Decision}
+use Rattle.copy_vault.specs.declared.copy_id.Decision.{Decision}
 use Rattle.copy_vault.specs.declared.fault.CopyFault.{CopyFault}
-use Rattle.image_copies.specs.declared.copy_id.CopyKind.{CopyKind}
-use Rattle.image_copies.specs.declared.copy_id.CopyKind.TheVariants.{Full, Inc}
+use Rattle.copy_vault.specs.declared.copy_id.CopyKind.{CopyKind}
+use Rattle.copy_vault.specs.declared.copy_id.CopyKind.TheVariants.{Full, Inc}
 use Rattle.copy_vault.specs.declared.vault.VaultEntry.{VaultEntry}
 use Rattle.copy_vault.specs.declared.vault.VaultEntry.TheVariants as entry
-use Rattle.image_copies.specs.Copy.{CopyView, answer_of, decided_by, decision_at, undecided, with_decision}
-use Rattle.image_copies.specs.Reading.{ReadingView}
+use Rattle.page_decisions.specs.Decisions.{decision_at, undecided}
+use Rattle.copy_vault.specs.Copy.{CopyView, answer_of, decided_by, with_decision}
+use Rattle.copy_vault.specs.Reading.{ReadingView}
 use Rattle.copy_vault.specs.Vault.{CopyState, reading, complete, dropped, state_of, since_of, redo_of}
 use Rattle.copy_vault.specs.Vault.{HasParent, IsOfId, IsOfVault, IsVault, state_in, with_state, answer_in, decided_in}
 use Rattle.copy_vault.specs.Vault.{decided}

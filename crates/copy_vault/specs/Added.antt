@@ -4,10 +4,10 @@ use Rattle.std.specs.Prelude.{nat_le, nat_lt, Option, Some, None, is_none, if◌
 use Rattle.copy_vault.specs.declared.add_fault.AddFault.{AddFault}
 use Rattle.copy_vault.specs.declared.add_fault.AddFault.TheVariants.{IdGiven, NoParent}
 use Rattle.copy_vault.specs.declared.add_fault.AddFault.TheVariants.{OutOfMemory, TooManyCopies}
-use Rattle.image_copies.specs.declared.copy_id.CopyKind.{CopyKind}
-use Rattle.image_copies.specs.declared.copy_id.CopyKind.TheVariants.{Full, Inc}
-use Rattle.image_copies.specs.declared.copy_id.TheConstants.{MAX_COPIES}
-use Rattle.image_copies.specs.Copy.{CopyView}
+use Rattle.copy_vault.specs.declared.copy_id.CopyKind.{CopyKind}
+use Rattle.copy_vault.specs.declared.copy_id.CopyKind.TheVariants.{Full, Inc}
+use Rattle.copy_vault.specs.declared.copy_id.TheConstants.{MAX_COPIES}
+use Rattle.copy_vault.specs.Copy.{CopyView}
 use Rattle.copy_vault.specs.Vault.{CopyState, complete, complete_of, dropped, state_of}
 
 -- the copy comes behind the others, and the ids before it that were not given count as dropped

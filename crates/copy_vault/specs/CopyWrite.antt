@@ -3,9 +3,9 @@ use Rattle.std.specs.Prelude.{ℕ, ◌≡◌, List, Option}
 use Rattle.std.specs.Io.KnownBytes.{Appends, Keeps}
 use Rattle.copy_vault.specs.declared.copy_write_fault.CopyWriteFault.{CopyWriteFault}
 use Rattle.copy_vault.specs.declared.copy_write_fault.CopyWriteFault.TheVariants.{Archive, Refused}
-use Rattle.copy_archives.specs.Archive.{archive_bytes}
-use Rattle.copy_archives.specs.ArchiveWrite.{Leaves}
-use Rattle.image_copies.specs.Copy.{CopyView}
+use Rattle.copy_vault.specs.Archive.{archive_bytes}
+use Rattle.copy_vault.specs.ArchiveWrite.{Leaves}
+use Rattle.copy_vault.specs.Copy.{CopyView}
 use Rattle.copy_vault.specs.Vault.{CopyState, OpenRefuses, complete, complete_refusal, state_of}
 
 -- the archive of the complete copy of this id was written

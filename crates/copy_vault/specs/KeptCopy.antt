@@ -1,6 +1,6 @@
 -- A complete copy as a vault keeps it.
 use Rattle.std.specs.Arc.{arc_value}
-use Rattle.image_copies.specs.Copy.{CopyView}
+use Rattle.copy_vault.specs.Copy.{CopyView}
 use Rattle.copy_vault.specs.declared.lent_copy.CopyPlace.{CopyPlace}
 use Rattle.copy_vault.specs.declared.lent_copy.CopyPlace.TheVariants.{Own, Lent}
 

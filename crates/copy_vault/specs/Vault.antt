@@ -5,18 +5,20 @@ use Rattle.std.specs.Prelude.{map, zero, suc}
 use Rattle.std.specs.Prelude.{slice_index_or, slice_set, Option, Some, None, nat_lt, if◌then◌else◌}
 use Rattle.std.specs.Option.{option_map, option_or}
 use Rattle.page_core.specs.declared.page.Page.{Page}
-use Rattle.image_copies.specs.declared.copy_id.CopyKind.{CopyKind}
-use Rattle.image_copies.specs.declared.copy_id.CopyKind.TheVariants.{Full, Inc}
-use Rattle.image_copies.specs.declared.copy_id.Decision.{Decision}
-use Rattle.image_copies.specs.declared.copy_id.TheConstants.{MAX_COPIES}
+use Rattle.copy_vault.specs.declared.copy_id.CopyKind.{CopyKind}
+use Rattle.copy_vault.specs.declared.copy_id.CopyKind.TheVariants.{Full, Inc}
+use Rattle.copy_vault.specs.declared.copy_id.Decision.{Decision}
+use Rattle.copy_vault.specs.declared.copy_id.TheConstants.{MAX_COPIES}
 use Rattle.copy_vault.specs.declared.fault.CopyFault.{CopyFault}
 use Rattle.copy_vault.specs.declared.fault.CopyFault.TheVariants.{OutOfMemory, NoCopy, CopyNotOpen}
 use Rattle.copy_vault.specs.declared.fault.CopyFault.TheVariants.{CopyNotComplete}
 use Rattle.copy_vault.specs.declared.fault.CopyFault.TheVariants.{PagesLeft, TooManyCopies}
 use Rattle.copy_vault.specs.declared.vault.VaultEntry.{VaultEntry}
 use Rattle.copy_vault.specs.declared.vault.VaultEntry.TheVariants as entry
-use Rattle.image_copies.specs.Copy.{CopyView, PageDecision, new_copy, with_decision, decided_by}
-use Rattle.image_copies.specs.Copy.{answer_of, decision_at, least_undecided, taken_count, undecided}
+use Rattle.page_decisions.specs.Decisions.{PageDecision}
+use Rattle.copy_vault.specs.Copy.{CopyView, new_copy, with_decision, decided_by}
+use Rattle.page_decisions.specs.Decisions.{decision_at, least_undecided, taken_count, undecided}
+use Rattle.copy_vault.specs.Copy.{answer_of}
 
 -- a copy is being read, or is complete, or was dropped while it was read
 pub data CopyState : Type 0 where

@@ -4,8 +4,8 @@ ghost use Rattle.std.specs.Prelude.{◌≡◌};
 ghost use Rattle.copy_vault.specs.declared.copy_write_fault.CopyWriteFault.TheVariants.{Archive};
 ghost use Rattle.copy_vault.specs.declared.copy_write_fault.CopyWriteFault.TheVariants.{Refused};
 
+use crate::archive_fault::ArchiveWriteFault;
 use crate::fault::CopyFault;
-use copy_archives::ArchiveWriteFault;
 use std::error::Error;
 use std::fmt;
 

@@ -2,9 +2,9 @@
 
 ghost use Rattle.std.specs.Prelude.{◌≡◌, IfOk, IfErr};
 ghost use Rattle.std.specs.Arc.{arc_value};
-ghost use Rattle.image_copies.specs.Copy.{IsComplete};
+ghost use Rattle.copy_vault.specs.Copy.{IsComplete};
 
-use image_copies::CompleteCopy;
+use crate::complete::CompleteCopy;
 use std::alloc::{AllocError, Global};
 use std::marker::Model;
 use std::sync::Arc;
@@ -18,7 +18,7 @@ pub struct LentCopy {
 
 impl Model for LentCopy {
     ghost use Rattle.std.specs.Arc.{arc_value};
-    ghost use Rattle.image_copies.specs.Copy.{CopyView};
+    ghost use Rattle.copy_vault.specs.Copy.{CopyView};
 
     ghost Value = { CopyView };
 
@@ -51,7 +51,7 @@ pub struct KeptCopy {
 }
 
 impl Model for KeptCopy {
-    ghost use Rattle.image_copies.specs.Copy.{CopyView};
+    ghost use Rattle.copy_vault.specs.Copy.{CopyView};
     ghost use Rattle.copy_vault.specs.KeptCopy.{copy_at};
 
     ghost Value = { CopyView };

@@ -6,7 +6,7 @@ ghost use Rattle.std.specs.Prelude.{OnOk, OnErr, vec_capacity, vec_len};
 ghost use Rattle.std.specs.Prelude.{IfSome, IsSome, Some, None};
 ghost use Rattle.std.specs.Option.{option_map, option_map_or};
 ghost use Rattle.copy_vault.specs.Added.{AddRefuses, add_refusal, lacks_parent, with_copy};
-ghost use Rattle.image_copies.specs.Chain.{IsChain};
+ghost use Rattle.copy_vault.specs.Chain.{IsChain};
 ghost use Rattle.copy_vault.specs.ChainOf.{IsChainOf};
 ghost use Rattle.copy_vault.specs.CopyWrite.{LeavesCopy, WritesCopy};
 ghost use Rattle.copy_vault.specs.Vault.{HasRoomForPage, OpenRefuses, answer_in};
@@ -17,18 +17,19 @@ ghost use Rattle.copy_vault.specs.Vault.{pages_read, reading, reading_of, seal_r
 ghost use Rattle.copy_vault.specs.Vault.{HasParent, IsOfVault, IsOfId, since_of, state_in};
 ghost use Rattle.copy_vault.specs.Vault.{state_of};
 ghost use Rattle.copy_vault.specs.Vault.{WaitsFor, sealed_in, taken_in, without};
-ghost use Rattle.image_copies.specs.declared.copy_id.CopyKind.TheVariants.{Full, Inc};
-ghost use Rattle.image_copies.specs.declared.copy_id.TheConstants.{MAX_COPIES};
+ghost use Rattle.copy_vault.specs.declared.copy_id.CopyKind.TheVariants.{Full, Inc};
+ghost use Rattle.copy_vault.specs.declared.copy_id.TheConstants.{MAX_COPIES};
 ghost use Rattle.copy_vault.specs.declared.vault.VaultEntry.TheVariants as entry;
 
 use crate::add_fault::AddFault;
+use crate::chain::Chain;
+use crate::complete::CompleteCopy;
+use crate::copy_id::{CopyId, CopyKind, Decision, MAX_COPIES};
 use crate::copy_write_fault::CopyWriteFault;
 use crate::fault::CopyFault;
 use crate::lent_copy::{KeptCopy, LentCopy};
-use copy_archives::write_archive;
-use image_copies::{
-    Chain, CompleteCopy, CopyId, CopyKind, CopyStart, Decision, MAX_COPIES, ReadingCopy,
-};
+use crate::reading::{CopyStart, ReadingCopy};
+use crate::write::write_archive;
 use page_core::{Lsn, Page, PageNo};
 use std::alloc::{AllocError, Global};
 use std::io::Write;

@@ -189,7 +189,7 @@ fn put_restore(
     }
 }
 
-/// The same, once the copy is loaded.
+/// Restores what was loaded: the sums after redo and after undo, and each balance.
 fn put_redone(
     rt: &(impl Threads + Sync),
     text: &mut String,
@@ -206,7 +206,7 @@ fn put_redone(
     }
 }
 
-/// The same, once it is redone, which makes the pages that plain redo makes.
+/// The sums and balances once it is redone, which makes the pages that plain redo makes.
 fn put_undone(text: &mut String, plain: &[Page], redone: Redone) -> Result<(), Fault> {
     if redone.pages() != plain {
         let id = COPIES[1];

@@ -190,7 +190,7 @@ pub struct Behind {
     pub incremental: u32,
 }
 
-/// The same by clerks that are hired for it: what they were answered, and what was changed behind
+/// Works a day by clerks that are hired for it: what they were answered, and what was changed behind
 /// the copies.
 fn worked<G: Ledger + Send + Sync, R: Threads + Wait + Sync>(
     rt: &R,

@@ -3,7 +3,7 @@
 ghost use Rattle.std.specs.Prelude.{◌≡◌, IfOk};
 
 use crate::halt::{FileTrouble, Place};
-use imgcopy_engine::{FailedFile, FileLog, FileStore, Folder, MemStore, SystemFolder};
+use imgcopy_engine::{FailedFile, FileLog, FileStore, Folder, MemStore, SystemFolder, Wary};
 use std::fs::File;
 use std::path::Path;
 use std::{fs, io};
@@ -97,7 +97,10 @@ pub struct Devices {
 
 fn log_of(files: &HostRuntime, folder: &str) -> Result<FileLog, FileTrouble> {
     match made(files, folder, LOG) {
-        Ok(file) => FileLog::new(files.alloc(), file).map_err(|why| trouble(Place::Log, &why)),
+        Ok(file) => FileLog::new(files.alloc(), file, Wary).map_err(|why| trouble(
+            Place::Log,
+            &why,
+        )),
         Err(error) => Err(FileTrouble::of(Place::Log, &error)),
     }
 }

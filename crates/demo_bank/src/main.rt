@@ -116,7 +116,7 @@ fn play_in<R: Threads + Wait + Sync>(rt: &R, plan: &Plan<'_>) -> Result<Retired,
     Ok(retired)
 }
 
-/// The same, which prints its lines by itself.
+/// Plays a day on files, and prints its lines.
 fn play_on_files<R: Threads + Wait + Sync>(rt: &R, plan: &Plan<'_>) -> ExitCode {
     let _held = held(plan.files);
     match play_in(rt, plan) {

@@ -239,7 +239,7 @@ fn id_of(work: &Work) -> Option<CopyId> {
     }
 }
 
-/// The same kind of a copy.
+/// A copy of this value.
 fn again(kind: &CopyKind) -> CopyKind {
     match kind {
         CopyKind::Full => CopyKind::Full,

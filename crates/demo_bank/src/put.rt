@@ -129,7 +129,7 @@ fn master_placed(
     }
 }
 
-/// The same of an archive.
+/// Opens the folder of a day, and puts the archive of a copy in place.
 fn copy_placed<S: PageStore, D: LogDevice, G: Ledger, R: Wait>(
     rt: &R,
     files: &HostRuntime,

@@ -11,14 +11,15 @@ use Rattle.log_records.specs.Log.{IsLog, Log, lsn_of, page_count}
 use Rattle.log_records.specs.Image.{image}
 use Rattle.log_records.specs.declared.record.Record.{Record}
 use Rattle.log_records.proofs.Public.{lsn-image}
-use Rattle.image_copies.specs.declared.copy_id.CopyKind.{CopyKind}
-use Rattle.image_copies.specs.declared.copy_id.CopyKind.TheVariants.{Full, Inc}
-use Rattle.image_copies.specs.declared.copy_id.TheConstants.{MAX_COPIES}
+use Rattle.copy_vault.specs.declared.copy_id.CopyKind.{CopyKind}
+use Rattle.copy_vault.specs.declared.copy_id.CopyKind.TheVariants.{Full, Inc}
+use Rattle.copy_vault.specs.declared.copy_id.TheConstants.{MAX_COPIES}
 use Rattle.copy_vault.specs.declared.add_fault.AddFault.{AddFault}
 use Rattle.copy_vault.specs.declared.add_fault.AddFault.TheVariants.{IdGiven, NoParent, TooManyCopies}
 use Rattle.copy_vault.specs.Added.{add_refusal, lacks_parent, with_copy}
-use Rattle.image_copies.specs.Chain.{content, last_of}
-use Rattle.image_copies.specs.Copy.{AreDecidedBelow, CopyView, IsComplete, PageDecision, decision_at, page_of, undecided}
+use Rattle.copy_vault.specs.Chain.{content, last_of}
+use Rattle.page_decisions.specs.Decisions.{AreDecidedBelow, PageDecision, decision_at, page_of, undecided}
+use Rattle.copy_vault.specs.Copy.{CopyView, IsComplete}
 use Rattle.copy_vault.specs.Vault.{CopyState, HasParent, complete, dropped, reading, state_of}
 use Rattle.copy_vault.proofs.Public.{parent_there}
 use Rattle.copy_vault.proofs.Public.{GoesOn}

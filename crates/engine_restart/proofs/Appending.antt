@@ -8,14 +8,14 @@ use Rattle.log_records.specs.PageCount.{GivesMore}
 use Rattle.log_records.proofs.Public.{format_in-take, format_of_log, length-log}
 use Rattle.log_records.proofs.Public.{page_count_at-all, page_count_at-append}
 use Rattle.log_store.specs.Device.{KeepsFirst}
-use Rattle.log_store.specs.Stores.{Forced, ForcesBetween, StoreCall, SyncCall}
+use Rattle.log_store.specs.Stores.{FailsBetween, ForceFails, Forced, ForcesBetween, StoreCall, SyncCall}
 use Rattle.log_store.specs.WrittenLog.{HoldsLog, IsWritten, WrittenLog, first_records}
 use Rattle.loser_undo.specs.Recovery.{appended}
 use Rattle.loser_undo.specs.UndoSink.{HasComeTo}
 use Rattle.loser_undo.proofs.Public.{log_and_appended}
 use Rattle.page_core.specs.declared.format.Format.{Format}
 use Rattle.page_core.specs.declared.format.Format.TheVariants.{Second}
-use Rattle.engine_restart.specs.Restart.{ForcesMore, HasLasting, undone_log}
+use Rattle.engine_restart.specs.Restart.{FailsUndo, ForcesMore, HasLasting, undone_log}
 
 -- a record behind a log may stand there
 pub record MayBeAppended (log : Log) (r : Record) : Type 0 where
@@ -104,19 +104,27 @@ module _ {D : Type 0} (bytes : D → List ℕ) (old new : WrittenLog D) (log und
       ∙ sym (take_all (lsn_of (length new.log.records)) (bytes new.device) (omega (arith, all, to)))
       ∙ held bytes new kept to ∙ ap log_bytes (sym log_is)
 
--- the log lies on its device, which keeps it as long as nobody calls it
-pub stays : {D : Type 0} (bytes : D → List ℕ) (log : Log) (old new : D) → IsLog log → HoldsLog bytes log old
-    → new ≡ old → KeepsFirst (lsn_of (length log.records)) (bytes old) (bytes new)
-stays bytes log old new valid holds same =
-    let n = lsn_of (length log.records) in
-    let front = take n (bytes old) in
-    let spells : SpellsLog log front = record {
-      valid = valid;
-      format = Second;
-      of_format = λ i d lt. tt;
-      spelled = holds;
-    } in
-    let long : length front ≡ 64 * (length log.records + 1) = length-log log front spells in
-    let short = length-take n (bytes old) in
-    let there : n ≤ length (bytes old) = omega (arith, long, short) in
-    subst (λ d. KeepsFirst n (bytes old) (bytes d)) (sym same) (record { there = there; same = refl })
+-- what a force of undo's records that failed has made of a device
+module _ {D : Type 0} (old new : WrittenLog D) (log : Log) (device left : D)
+    (from : old.forced_end ≡ lsn_of (length log.records)) (was : old.device ≡ device) (left_is : left ≡ new.device) where
+  abbrev end : ℕ
+  end = lsn_of (length log.records)
+
+  pub fails_undo : (called : StoreCall D) (synced : SyncCall D) → new.log ≡ undone_log log
+      → ForceFails called synced old new → FailsUndo called synced log device left
+  fails_undo called synced log_is fails = (
+    new.forced_end,
+    subst (λ d. FailsBetween called synced (undone_log log) end new.forced_end device d) (sym left_is)
+        (subst (λ d. FailsBetween called synced (undone_log log) end new.forced_end d new.device) was
+        (subst (λ n. FailsBetween called synced (undone_log log) n new.forced_end old.device new.device) from
+        (subst (λ l. FailsBetween called synced l old.forced_end new.forced_end old.device new.device) log_is fails))),
+  )
+
+  pub lasts_still : (bytes : D → List ℕ) (lasting : D → ℕ) → HasLasting bytes lasting log device
+      → KeepsFirst old.forced_end (bytes old.device) (bytes new.device) → old.forced_end ≤ new.forced_end
+      → new.forced_end ≤ lasting new.device → HasLasting bytes lasting log left
+  lasts_still bytes lasting has keeps rising lasts = subst (HasLasting bytes lasting log) (sym left_is) (record {
+    holds = subst (λ n. take n (bytes new.device) ≡ take n (bytes old.device)) from keeps.same
+        ∙ ap (λ d. take end (bytes d)) was ∙ has.holds;
+    lasts = omega (arith, from, rising, lasts);
+  })

@@ -8,7 +8,7 @@ use Rattle.log_rules.specs.Linked.{IsLinked}
 use Rattle.log_rules.proofs.Public.{complete-of_end, end-of_complete}
 use Rattle.fuzzy_ckpt.specs.declared.point.Point.{Point}
 use Rattle.fuzzy_ckpt.specs.LogCheckpoints.{IsLastPoint}
-use Rattle.image_copies.specs.Copy.{CopyView}
+use Rattle.copy_vault.specs.Copy.{CopyView}
 use Rattle.copy_coverage.specs.Copied.{IsPoint}
 use Rattle.engine_restart.specs.Added.{BeginsIn, IsCheckpointed}
 

@@ -13,11 +13,11 @@ use Rattle.engine_restart.specs.Restart.{undone_log}
 use Rattle.engine_restart.proofs.UndoneParts.{Begins, UndoLaws, begins_itself, begins_undo, begins_with, parts_go_on}
 
 -- undo keeps the log
-log_stays : (rs : List Record) → take (length rs) (after_undo rs) ≡ rs
+pub log_stays : (rs : List Record) → take (length rs) (after_undo rs) ≡ rs
 log_stays rs =
     let begins = begins_undo rs in ap (take (length rs)) begins.1 ∙ take_at rs begins.0 (length rs) refl
 
-valid_before : (log : Log) → IsLog (undone_log log) → IsLog log
+pub valid_before : (log : Log) → IsLog (undone_log log) → IsLog log
 valid_before log valid =
     subst (λ (rs : List Record). IsLog (record log { records = rs })) (log_stays log.records)
     (valid_cut (undone_log log) (length log.records) valid)

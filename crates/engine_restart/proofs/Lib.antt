@@ -2,6 +2,7 @@ pub mod Adding
 pub mod Appending
 pub mod Beginnings
 pub mod Checking
+pub mod Failed
 pub mod Founds
 pub mod Interrupted
 pub mod Lives

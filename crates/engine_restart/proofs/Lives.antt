@@ -17,8 +17,8 @@ use Rattle.log_records.proofs.Public.{covers_later, resume_covering, stands_in, 
 use Rattle.log_rules.specs.Linked.{IsLinked}
 use Rattle.log_rules.specs.Transactions.{owed}
 use Rattle.log_rules.proofs.Public.{linked-take}
-use Rattle.image_copies.specs.Chain.{content}
-use Rattle.image_copies.specs.Copy.{CopyView}
+use Rattle.copy_vault.specs.Chain.{content}
+use Rattle.copy_vault.specs.Copy.{CopyView}
 use Rattle.copy_vault.specs.Vault.{complete, state_of}
 use Rattle.copy_coverage.specs.Copied.{AreRestorable, Restores}
 use Rattle.copy_coverage.proofs.Public.{covers_kept}

@@ -13,7 +13,7 @@ use Rattle.loser_undo.specs.Undo.{after_undo}
 use Rattle.loser_undo.specs.UndoSink.{HasRedone}
 use Rattle.loser_undo.proofs.Public.{log_and_appended, nothing_redone, undo_closes, undo_is_linked}
 use Rattle.loser_undo.proofs.Public.{undone_count, undone_number}
-use Rattle.image_copies.specs.Copy.{CopyView}
+use Rattle.copy_vault.specs.Copy.{CopyView}
 use Rattle.copy_vault.specs.Vault.{CopyState, complete, dropped, reading, state_of}
 use Rattle.copy_coverage.specs.Copied.{AreRestorable}
 use Rattle.engine_restart.specs.Restart.{IsRestarted, undone_log}

@@ -4,11 +4,12 @@ use Rattle.std.specs.List.{AllByRecursion}
 use Rattle.std.proofs.lemmas.List.{append-nil, reverse-append, reverse-reverse}
 use Rattle.page_core.specs.declared.page.Page.{Page}
 use Rattle.page_core.specs.Page.{formatted}
-use Rattle.image_copies.specs.declared.copy_id.CopyKind.{CopyKind}
-use Rattle.image_copies.specs.declared.copy_id.CopyKind.TheVariants.{Full, Inc}
-use Rattle.image_copies.specs.Chain.{Follow, IsChain, content, last_of, takings}
+use Rattle.copy_vault.specs.declared.copy_id.CopyKind.{CopyKind}
+use Rattle.copy_vault.specs.declared.copy_id.CopyKind.TheVariants.{Full, Inc}
+use Rattle.copy_vault.specs.Chain.{Follow, IsChain, content, last_of, takings}
 use Rattle.copy_vault.specs.ChainOf.{IsChainOf}
-use Rattle.image_copies.specs.Copy.{CopyView, decision_at, page_of}
+use Rattle.page_decisions.specs.Decisions.{decision_at, page_of}
+use Rattle.copy_vault.specs.Copy.{CopyView}
 use Rattle.copy_vault.specs.Vault.{CopyState, complete, state_of}
 use Rattle.copy_coverage.specs.Copied.{StandsOn}
 use Rattle.copy_coverage.proofs.Public.{complete_same}

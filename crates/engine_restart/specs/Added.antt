@@ -10,11 +10,11 @@ use Rattle.log_rules.specs.Checkpoint.{IsCompleteCheckpoint}
 use Rattle.copy_vault.specs.declared.add_fault.AddFault.{AddFault}
 use Rattle.copy_vault.specs.declared.add_fault.AddFault.TheVariants as vault
 use Rattle.copy_vault.specs.Added.{add_refusal}
-use Rattle.image_copies.specs.declared.copy_id.CopyKind.{CopyKind}
-use Rattle.image_copies.specs.declared.copy_id.CopyKind.TheVariants.{Full, Inc}
-use Rattle.image_copies.specs.Chain.{IsChain, content}
+use Rattle.copy_vault.specs.declared.copy_id.CopyKind.{CopyKind}
+use Rattle.copy_vault.specs.declared.copy_id.CopyKind.TheVariants.{Full, Inc}
+use Rattle.copy_vault.specs.Chain.{IsChain, content}
 use Rattle.copy_vault.specs.ChainOf.{IsChainOf}
-use Rattle.image_copies.specs.Copy.{CopyView}
+use Rattle.copy_vault.specs.Copy.{CopyView}
 use Rattle.copy_vault.specs.Vault.{CopyState, complete, state_of}
 use Rattle.copy_coverage.specs.Copied.{IsPoint}
 use Rattle.engine_restart.specs.declared.add_fault.AddCopyFault.{AddCopyFault}

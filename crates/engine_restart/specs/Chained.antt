@@ -1,8 +1,8 @@
 -- The chain that a copy stands on, as it is found.
 use Rattle.std.specs.Prelude.{List, ◌≡◌, [], Option, Some, None}
 use Rattle.copy_vault.specs.declared.add_fault.AddFault.TheVariants as vault
-use Rattle.image_copies.specs.declared.copy_id.CopyKind.{CopyKind}
-use Rattle.image_copies.specs.Copy.{CopyView}
+use Rattle.copy_vault.specs.declared.copy_id.CopyKind.{CopyKind}
+use Rattle.copy_vault.specs.Copy.{CopyView}
 use Rattle.copy_vault.specs.Vault.{CopyState}
 use Rattle.engine_restart.specs.declared.add_fault.AddCopyFault.{AddCopyFault}
 use Rattle.engine_restart.specs.declared.add_fault.AddCopyFault.TheVariants.{OfOtherLog}

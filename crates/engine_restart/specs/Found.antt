@@ -1,8 +1,8 @@
 -- The log in the bytes of a device's file.
 use Rattle.std.specs.Prelude.{ℕ, ◌≡◌, List}
-use Rattle.log_front.specs.declared.fault.FrontFault.{FrontFault}
-use Rattle.log_front.specs.declared.fault.FrontFault.TheVariants as front
-use Rattle.log_front.specs.Front.{HasNoFront}
+use Rattle.log_prefix.specs.declared.fault.FrontFault.{FrontFault}
+use Rattle.log_prefix.specs.declared.fault.FrontFault.TheVariants as front
+use Rattle.log_prefix.specs.Front.{HasNoFront}
 use Rattle.log_records.specs.Log.{format_in}
 use Rattle.page_core.specs.declared.fault_name.FaultName.TheVariants as name
 use Rattle.page_core.specs.declared.format.Format.TheVariants.{First}

@@ -7,8 +7,8 @@ use Rattle.file_devices.specs.Calls.{done}
 use Rattle.file_devices.specs.FileLog.{LogOnDisk, ResumeFails, bytes_of}
 use Rattle.file_devices.specs.declared.calls.FileCall.{FileCall}
 use Rattle.file_devices.specs.declared.calls.Request.TheVariants.{Read, SetLen, Sync, Write}
-use Rattle.log_front.specs.declared.cut.Cut.{Cut}
-use Rattle.log_front.specs.Front.{IsFrontOf}
+use Rattle.log_prefix.specs.declared.cut.Cut.{Cut}
+use Rattle.log_prefix.specs.Front.{IsFrontOf}
 use Rattle.log_records.specs.Log.{Log, log_bytes}
 use Rattle.engine_restart.specs.Found.{FindsNone, line_of}
 use Rattle.engine_restart.specs.Lives.{GoesOnFrom}

@@ -7,7 +7,7 @@ use Rattle.log_records.specs.Image.{redo_all}
 use Rattle.log_records.specs.Log.{Log, lsn_of, page_count, with_next}
 use Rattle.log_records.specs.declared.record.Record.{Record}
 use Rattle.log_rules.specs.Transactions.{begun}
-use Rattle.log_store.specs.Stores.{ForcesBetween, StoreCall, SyncCall}
+use Rattle.log_store.specs.Stores.{FailsBetween, ForcesBetween, StoreCall, SyncCall}
 use Rattle.log_store.specs.WrittenLog.{HoldsLog, WrittenLog}
 use Rattle.loser_undo.specs.Undo.{after_undo}
 use Rattle.copy_vault.specs.Vault.{CopyState}
@@ -34,6 +34,12 @@ abbrev pub ForcesMore : {D : Type 0} → StoreCall D → SyncCall D → Log → 
 ForcesMore called synced log more old new =
     ForcesBetween called synced more.records (lsn_of (length log.records))
     (lsn_of (length more.records)) old new
+
+-- undo's records were stored behind a log in order, each by one call, as a force does it; and a call
+-- failed, as a force fails
+abbrev pub FailsUndo : {D : Type 0} → StoreCall D → SyncCall D → Log → D → D → Type 0
+FailsUndo called synced log old new = (forced : ℕ)
+    × FailsBetween called synced (undone_log log) (lsn_of (length log.records)) forced old new
 
 -- these records stand behind the log, unless memory for one was refused; and nothing was forced
 -- since the start

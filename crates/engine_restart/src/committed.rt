@@ -8,7 +8,7 @@ ghost use Rattle.loser_undo.specs.Recovery.{HasCommitted};
 ghost use Rattle.engine_restart.specs.declared.fault.RestartFault.TheVariants.{LogFull};
 
 use crate::fault::RestartFault;
-use log_front::Front;
+use log_prefix::Front;
 use log_records::MAX_RECORDS;
 use loser_undo::undo_into;
 use page_core::Page;

@@ -4,8 +4,8 @@ ghost use Rattle.std.specs.Prelude.{◌≡◌, ◌↔◌, ◌++◌, [], ◌∷�
 ghost use Rattle.std.specs.List.{range_with_len};
 ghost use Rattle.copy_coverage.specs.Copied.{IsPoint};
 ghost use Rattle.fuzzy_ckpt.specs.LogCheckpoints.{IsLastPoint};
-ghost use Rattle.image_copies.specs.Chain.{content};
-ghost use Rattle.image_copies.specs.Copy.{IsComplete};
+ghost use Rattle.copy_vault.specs.Chain.{content};
+ghost use Rattle.copy_vault.specs.Copy.{IsComplete};
 ghost use Rattle.log_rules.specs.Linked.{IsLinked};
 ghost use Rattle.log_records.specs.Log.{IsLog, page_count};
 ghost use Rattle.log_records.specs.Record.{IsLsn};

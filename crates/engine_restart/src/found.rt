@@ -1,13 +1,13 @@
 //! The log in the bytes of a device's file.
 
 ghost use Rattle.std.specs.Prelude.{◌≡◌, IfOk, IfErr, length, take};
-ghost use Rattle.log_front.specs.Front.{IsFrontOf, end_of};
+ghost use Rattle.log_prefix.specs.Front.{IsFrontOf, end_of};
 ghost use Rattle.log_rules.specs.Linked.{IsLinked};
 ghost use Rattle.log_records.specs.Log.{log_bytes};
 ghost use Rattle.engine_restart.specs.Found.{FindsNone};
 
 use crate::found_fault::FoundFault;
-use log_front::{Front, read_front};
+use log_prefix::{Front, read_front};
 use log_records::log_header;
 use page_core::Format;
 use std::alloc::Global;

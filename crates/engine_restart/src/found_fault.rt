@@ -3,7 +3,7 @@
 ghost use Rattle.std.specs.Prelude.{◌≡◌};
 ghost use Rattle.engine_restart.specs.Found.{of_front};
 
-use log_front::FrontFault;
+use log_prefix::FrontFault;
 use page_core::FaultName;
 use std::error::Error;
 use std::fmt;

@@ -2,20 +2,19 @@
 
 ghost use Rattle.std.specs.Prelude.{◌≡◌, ◌+◌, ◌<◌, [], length, IfErr, IfOk};
 ghost use Rattle.log_records.specs.declared.limits.TheConstants.{MAX_RECORDS};
-ghost use Rattle.log_records.specs.Log.{log_bytes, lsn_of};
+ghost use Rattle.log_records.specs.Log.{log_bytes};
 ghost use Rattle.log_rules.specs.Transactions.{owed};
-ghost use Rattle.log_store.specs.Device.{KeepsFirst};
 ghost use Rattle.loser_undo.specs.Recovery.{HasCommitted};
-ghost use Rattle.engine_restart.specs.Restart.{ForcesMore, HasLasting, IsRestarted, IsStopped};
-ghost use Rattle.engine_restart.specs.Restart.{undone_log};
-ghost use Rattle.engine_restart.specs.declared.fault.RestartFault.TheVariants.{LogFull};
+ghost use Rattle.engine_restart.specs.Restart.{FailsUndo, ForcesMore, HasLasting, IsRestarted};
+ghost use Rattle.engine_restart.specs.Restart.{IsStopped, undone_log};
+ghost use Rattle.engine_restart.specs.declared.fault.RestartFault.TheVariants.{LogFault, LogFull};
 
 use crate::fault::RestartFault;
 use crate::restarted::Restarted;
 use crate::undo_on_log::take_back;
 use copy_vault::Vault;
 use fuzzy_ckpt::LogCheckpoints;
-use log_front::Front;
+use log_prefix::Front;
 use log_store::LogDevice;
 use std::alloc::Global;
 
@@ -44,8 +43,9 @@ pub fn restart<D: LogDevice + Drop>(
     ensures full { IfErr result (λ e. e.0 ≡ LogFull
         → MAX_RECORDS < length front.log.records + owed front.log.records) }
     ensures fault { IfErr result (λ e. IsStopped D.failures device e.0 e.1) }
-    ensures stands { IfErr result (λ e.
-        KeepsFirst (lsn_of (length front.log.records)) (D.bytes device) (D.bytes e.1)) }
+    ensures last_call { IfErr result (λ e. e.0 ≡ LogFault
+        → FailsUndo D.called D.synced front.log device e.1) }
+    ensures stands { IfErr result (λ e. HasLasting D.bytes D.lasting front.log e.1) }
 {
     let found = front.analysis();
     let checkpoints = LogCheckpoints::of(found);

@@ -8,18 +8,26 @@ ghost use Rattle.log_records.specs.declared.record.Record.{Record};
 ghost use Rattle.log_rules.specs.Linked.{IsLinked};
 ghost use Rattle.log_rules.specs.Table.{MayNote, noted, table_of};
 ghost use Rattle.loser_undo.specs.Recovery.{HasCommitted};
-ghost use Rattle.image_copies.specs.Copy.{CopyView};
+ghost use Rattle.copy_vault.specs.Copy.{CopyView};
 ghost use Rattle.copy_vault.specs.Vault.{complete, state_of};
 ghost use Rattle.copy_coverage.specs.Copied.{Restores};
 ghost use Rattle.engine_rules.specs.AnsweredCommits.{StandsIn};
 ghost use Rattle.engine_rules.specs.EngineState.{IsFit};
-ghost use Rattle.engine_restart.specs.Interrupted.{IsFoundFrom};
+ghost use Rattle.engine_restart.specs.Interrupted.{IsFoundBehind, IsFoundFrom, IsPartlyUndone};
+ghost use Rattle.engine_restart.specs.Interrupted.{asked_of};
+ghost use Rattle.engine_restart.specs.LogFile.{LastsOnFile};
 ghost use Rattle.engine_restart.specs.Lives.{AreLives, Life, commits_of, last_life};
-ghost use Rattle.engine_restart.specs.Restart.{undone_log};
+ghost use Rattle.engine_restart.specs.Restart.{FailsUndo, undone_log};
+ghost use Rattle.file_devices.specs.FileLog.{IsTrusted};
+ghost use Rattle.log_store.specs.WrittenLog.{HoldsLog};
 
 use crate::log_file::MAX_FILE_BYTES;
 use copy_coverage::{a_complete_copy_restores, copies_may_be_restored};
+use file_devices::FileLog;
+use log_prefix::forced_records_are_in_the_front;
+use log_store::LogDevice;
 use loser_undo::undo_takes_back_what_is_pending;
+use sqlite_disk::Disk;
 
 /// How many bytes a log's file may have at most to be read: twice those of the longest log.
 pub fn files_of_so_many_bytes_are_read()
@@ -45,6 +53,27 @@ pub fn undo_may_be_interrupted()
         → IsFoundFrom log found → undone_log found ≡ undone_log log }
 {
     undo_takes_back_what_is_pending();
+}
+
+/// A restart that failed counts as one that was interrupted. Where `take_back` answers `LogFault`,
+/// all of the log still lasts on the device, and each record that it was asked to store behind that
+/// is one of undo's. So if a crash leaves no other record there, the log that is found next is taken
+/// back in part, and undo of it goes on.
+pub fn failed_restarts_leave_a_part_of_undo<D: LogDevice>()
+    ensures { (log found : Log) (old new : D) (fails : FailsUndo D.called D.synced log old new)
+        → IsLog (undone_log log) → IsLinked log.records
+        → IsFoundBehind log (asked_of log fails) found → IsPartlyUndone log found }
+{
+    forced_records_are_in_the_front();
+}
+
+/// What lasts of a log on a disk is in each content that a crash may leave of it.
+pub fn crashes_leave_what_lasts<D: Disk + Drop>(device: &FileLog<D>)
+    ensures { (log : Log) (left : List ℕ) → LastsOnFile log device.now
+        → IsTrusted D.is_clean device.now → D.may_leave device.now.disk left
+        → HoldsLog (λ bytes. bytes) log left }
+{
+    device.lasting_bytes_are_left();
 }
 
 /// A database may be lost any number of times. Its lives follow one another, each with its calls and

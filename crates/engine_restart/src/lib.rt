@@ -23,8 +23,8 @@ pub use found::log_in;
 pub use found_fault::FoundFault;
 pub use from_log::restart;
 pub use laws::{
-    analysis_goes_record_by_record, files_of_so_many_bytes_are_read, lives_follow_one_another,
-    undo_may_be_interrupted,
+    analysis_goes_record_by_record, crashes_leave_what_lasts, failed_restarts_leave_a_part_of_undo,
+    files_of_so_many_bytes_are_read, lives_follow_one_another, undo_may_be_interrupted,
 };
 pub use log_file::{FoundLog, MAX_FILE_BYTES, found_log, log_on};
 pub use log_file_fault::FoundLogFault;

@@ -2,7 +2,7 @@
 
 ghost use Rattle.std.specs.Prelude.{◌≡◌, ◌<◌, false, drop, length, take, Err, IfErr, IfOk, OnErr, OnOk};
 ghost use Rattle.file_devices.specs.FileLog.{KeepFails, bytes_of};
-ghost use Rattle.log_front.specs.Front.{IsFrontOf, end_of};
+ghost use Rattle.log_prefix.specs.Front.{IsFrontOf, end_of};
 ghost use Rattle.log_records.specs.Log.{log_bytes};
 ghost use Rattle.log_rules.specs.Linked.{IsLinked};
 ghost use Rattle.engine_restart.specs.Found.{FindsNone};
@@ -14,11 +14,11 @@ use crate::found::log_in;
 use crate::found_fault::FoundFault;
 use crate::log_file_fault::FoundLogFault;
 use file_devices::FileLog;
-use log_front::Front;
+use log_prefix::Front;
 use log_records::MAX_LOG_BYTES;
 use log_store::DeviceFault;
 use page_core::zeros;
-use sqlite_disk::Disk;
+use sqlite_disk::{Disk, Wary};
 use std::alloc::Global;
 use std::fs::File;
 
@@ -92,7 +92,7 @@ pub fn found_log(alloc: Global, file: File, len: u64) -> Result<FoundLog, FoundL
         return Err(FoundLogFault::TooLong(len));
     }
     let mut bytes = zeros(alloc, len as usize)?;
-    let device = match FileLog::resume(alloc, file, &mut bytes) {
+    let device = match FileLog::resume(alloc, file, Wary, &mut bytes) {
         Ok(device) => device,
         Err(why) => return Err(FoundLogFault::File(why)),
     };

@@ -7,7 +7,7 @@ ghost use Rattle.engine_restart.specs.Lives.{GoesOnFrom};
 ghost use Rattle.engine_restart.specs.Restart.{HasLasting, IsRestarted};
 ghost use Rattle.engine_rules.specs.Resumed.{resumed_state};
 
-use aries_core::{Engine, Legacy, NotResumed};
+use aries_core::{Engine, NotResumed, ResumedParts};
 use copy_vault::Vault;
 use fuzzy_ckpt::LogCheckpoints;
 use log_records::Record;
@@ -108,13 +108,13 @@ impl Restarted {
             begun,
             vault,
         } = self;
-        let legacy = Legacy {
+        let parts = ResumedParts {
             log,
             checkpoints,
             begun,
             vault,
         };
-        let engine = Engine::resume(alloc, legacy, &pages, frames, store, device)?;
+        let engine = Engine::resume(alloc, parts, &pages, frames, store, device)?;
         // An engine is fit, which one of its calls tells.
         let _end = engine.log_end();
         Ok(engine)

@@ -1,19 +1,18 @@
 //! Undo on a log, its device and its pages.
 
 ghost use Rattle.std.specs.Prelude.{◌≡◌, ◌+◌, ◌<◌, ◌≤◌, length, IfErr, IfOk, OnOk};
-ghost use Rattle.log_front.specs.Front.{LeadsTo};
+ghost use Rattle.log_prefix.specs.Front.{LeadsTo};
 ghost use Rattle.log_rules.specs.Linked.{IsLinked};
 ghost use Rattle.log_rules.specs.Transactions.{owed};
 ghost use Rattle.log_records.specs.declared.limits.TheConstants.{MAX_RECORDS};
 ghost use Rattle.log_records.specs.Image.{redo_all};
 ghost use Rattle.log_records.specs.Log.{IsLog, log_bytes, lsn_of, page_count};
-ghost use Rattle.log_store.specs.Device.{KeepsFirst};
-ghost use Rattle.engine_restart.specs.Restart.{ForcesMore, HasGrown, HasLasting, IsStopped};
-ghost use Rattle.engine_restart.specs.Restart.{undone_log};
-ghost use Rattle.engine_restart.specs.declared.fault.RestartFault.TheVariants.{LogFull};
+ghost use Rattle.engine_restart.specs.Restart.{FailsUndo, ForcesMore, HasGrown, HasLasting};
+ghost use Rattle.engine_restart.specs.Restart.{IsStopped, undone_log};
+ghost use Rattle.engine_restart.specs.declared.fault.RestartFault.TheVariants.{LogFault, LogFull};
 
 use crate::fault::RestartFault;
-use log_front::Front;
+use log_prefix::Front;
 use log_records::{MAX_RECORDS, Record};
 use log_store::{Log, LogDevice, LogImage};
 use loser_undo::{UndoSink, undo_into};
@@ -27,8 +26,11 @@ use txn_table::Losers;
 ///
 /// `LogFull` comes where the records do not fit, before the first one; `OutOfMemory` where memory
 /// is refused, before the device is called; and `LogFault` where a call of the device fails. Each
-/// hands the device back. It still has the log, and perhaps some of undo's records behind it; so a
-/// restart can be tried again from what it has.
+/// hands the device back, on which all of the log still lasts. At a `LogFault` the device was asked
+/// for no more than the first of undo's records, in their order, and to sync them. So where a crash
+/// leaves no other record behind the log, who opens it anew finds it taken back in part
+/// (`failed_restarts_leave_a_part_of_undo`), and a restart goes on from there. The value that is
+/// handed back may be of no more use: a `FileLog` stores nothing once a sync has failed.
 pub fn take_back<D: LogDevice + Drop>(
     front: Front,
     device: D,
@@ -47,8 +49,9 @@ pub fn take_back<D: LogDevice + Drop>(
     ensures full { IfErr result (λ e. e.0 ≡ LogFull
         → MAX_RECORDS < length front.log.records + owed front.log.records) }
     ensures fault { IfErr result (λ e. IsStopped D.failures device e.0 e.1) }
-    ensures stands { IfErr result (λ e.
-        KeepsFirst (lsn_of (length front.log.records)) (D.bytes device) (D.bytes e.1)) }
+    ensures last_call { IfErr result (λ e. e.0 ≡ LogFault
+        → FailsUndo D.called D.synced front.log device e.1) }
+    ensures stands { IfErr result (λ e. HasLasting D.bytes D.lasting front.log e.1) }
     ensures valid { IsLog front.log }
     ensures linked { IsLinked front.log.records }
 {
@@ -65,7 +68,10 @@ pub fn take_back<D: LogDevice + Drop>(
             let (log, device) = written.into_parts();
             Ok((log, pages, device))
         }
-        Err(_) => Err((RestartFault::LogFault, written.into_parts().1)),
+        Err(_) => {
+            let (_, device) = written.into_parts();
+            Err((RestartFault::LogFault, device))
+        }
     }
 }
 

@@ -5,14 +5,15 @@ use Rattle.std.specs.Prelude.{Option, Result, Ok, map}
 use Rattle.std.proofs.Math.ListN.{get_or-map}
 use Rattle.std.proofs.lemmas.List.{length-map, map-append, map-set}
 use Rattle.page_core.specs.declared.page.Page.{Page}
-use Rattle.image_copies.specs.declared.copy_id.CopyKind.{CopyKind}
-use Rattle.image_copies.specs.declared.copy_id.CopyKind.TheVariants.{Full, Inc}
-use Rattle.image_copies.specs.declared.copy_id.Decision.{Decision}
-use Rattle.image_copies.specs.declared.copy_id.Decision.TheVariants.{Taken, Kept}
-use Rattle.image_copies.specs.Copy.{answer_of, decided_by, undecided}
+use Rattle.copy_vault.specs.declared.copy_id.CopyKind.{CopyKind}
+use Rattle.copy_vault.specs.declared.copy_id.CopyKind.TheVariants.{Full, Inc}
+use Rattle.copy_vault.specs.declared.copy_id.Decision.{Decision}
+use Rattle.copy_vault.specs.declared.copy_id.Decision.TheVariants.{Taken, Kept}
+use Rattle.page_decisions.specs.Decisions.{undecided}
+use Rattle.copy_vault.specs.Copy.{answer_of, decided_by}
 use Rattle.copy_vault.specs.Vault.{CopyState, answer_in, complete, decided_in, dropped, opened}
 use Rattle.copy_vault.specs.Vault.{reading, sealed_in, since_of, state_of, with_state}
-use Rattle.image_copies.proofs.Public.{map-replicate}
+use Rattle.page_decisions.proofs.Public.{map-replicate}
 use Rattle.engine_calls.specs.declared.event.Answer.{Answer}
 use Rattle.engine_calls.specs.declared.event.Answer.TheVariants as answer
 use Rattle.engine_calls.specs.declared.event.Event.{Event}

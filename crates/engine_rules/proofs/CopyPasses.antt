@@ -7,10 +7,11 @@ use Rattle.std.specs.Option.{option_map, option_or}
 use Rattle.std.proofs.lemmas.Bool.{leb-false, ltb-true}
 use Rattle.fuzzy_ckpt.specs.declared.point.Point.{Point}
 use Rattle.copy_vault.specs.declared.fault.CopyFault.{CopyFault}
-use Rattle.image_copies.specs.declared.copy_id.TheConstants.{MAX_COPIES}
+use Rattle.copy_vault.specs.declared.copy_id.TheConstants.{MAX_COPIES}
 use Rattle.copy_vault.specs.declared.fault.CopyFault.TheVariants as fault
 use Rattle.copy_vault.specs.declared.fault.CopyFault.TheVariants.{PagesLeft}
-use Rattle.image_copies.specs.Copy.{CopyView, least_undecided}
+use Rattle.page_decisions.specs.Decisions.{least_undecided}
+use Rattle.copy_vault.specs.Copy.{CopyView}
 use Rattle.copy_vault.specs.Vault.{CopyState, complete, complete_refusal, drop_refusal, dropped}
 use Rattle.copy_vault.specs.Vault.{open_refusal, reading, seal_refusal, state_of}
 use Rattle.engine_calls.specs.declared.event.Event.TheVariants as event

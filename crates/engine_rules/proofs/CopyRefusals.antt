@@ -8,11 +8,11 @@ use Rattle.std.specs.Option.{option_map, option_or}
 use Rattle.std.proofs.Math.ListN.{get_or-map}
 use Rattle.std.proofs.lemmas.Bool.{cases_lt, le-leb, lt-leb, lt-ltb, le-ltb}
 use Rattle.std.proofs.lemmas.List.{length-map}
-use Rattle.image_copies.specs.declared.copy_id.TheConstants.{MAX_COPIES}
+use Rattle.copy_vault.specs.declared.copy_id.TheConstants.{MAX_COPIES}
 use Rattle.copy_vault.specs.declared.fault.CopyFault.{CopyFault}
 use Rattle.copy_vault.specs.declared.fault.CopyFault.TheVariants as fault
-use Rattle.image_copies.specs.Copy.{PageDecision, is_undecided, kept, least_undecided, taken}
-use Rattle.image_copies.specs.Copy.{undecided}
+use Rattle.page_decisions.specs.Decisions.{PageDecision, is_undecided, kept, least_undecided, taken}
+use Rattle.page_decisions.specs.Decisions.{undecided}
 use Rattle.copy_vault.specs.Vault.{CopyState, complete, complete_refusal, drop_refusal, dropped}
 use Rattle.copy_vault.specs.Vault.{open_refusal, reading, seal_refusal, state_of}
 use Rattle.fuzzy_ckpt.specs.declared.point.Point.{Point}

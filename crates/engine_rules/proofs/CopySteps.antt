@@ -11,10 +11,10 @@ use Rattle.page_core.specs.Page.{formatted}
 use Rattle.log_records.specs.declared.record.Record.{Record}
 use Rattle.log_records.specs.Coverage.{Covers, IsPast}
 use Rattle.fuzzy_ckpt.specs.declared.point.Point.{Point}
-use Rattle.image_copies.specs.declared.copy_id.CopyKind.{CopyKind}
-use Rattle.image_copies.specs.declared.copy_id.CopyKind.TheVariants.{Inc}
-use Rattle.image_copies.specs.declared.copy_id.TheConstants.{MAX_COPIES}
-use Rattle.image_copies.specs.Copy.{CopyView}
+use Rattle.copy_vault.specs.declared.copy_id.CopyKind.{CopyKind}
+use Rattle.copy_vault.specs.declared.copy_id.CopyKind.TheVariants.{Inc}
+use Rattle.copy_vault.specs.declared.copy_id.TheConstants.{MAX_COPIES}
+use Rattle.copy_vault.specs.Copy.{CopyView}
 use Rattle.copy_vault.specs.Vault.{opened as opened_with}
 use Rattle.copy_vault.specs.Vault.{CopyState, HasParent, complete, decided, dropped, state_of}
 use Rattle.copy_coverage.specs.Copied.{AreCopied, IsPoint, copy_in}

@@ -23,7 +23,7 @@ use Rattle.log_records.specs.Record.{IsOfTransaction, change_of}
 use Rattle.log_rules.specs.Linked.{MayFollow}
 use Rattle.log_rules.specs.Transactions.{owed}
 use Rattle.log_rules.proofs.Public.{linked_none, linked_push, valid_next}
-use Rattle.image_copies.specs.Copy.{CopyView}
+use Rattle.copy_vault.specs.Copy.{CopyView}
 use Rattle.copy_vault.specs.Vault.{complete, dropped, reading, state_of}
 use Rattle.copy_coverage.specs.Copied.{AreCopied, copy_in}
 use Rattle.copy_coverage.proofs.Public.{copied_forced, copied_later}

@@ -14,7 +14,7 @@ use Rattle.log_rules.specs.Transactions.{last_of, pending}
 use Rattle.log_rules.specs.Work.{UndoCall, UndoToCall, call_of}
 use Rattle.log_store.specs.WrittenLog.{end_up_to}
 use Rattle.copy_vault.specs.Vault.{CopyState}
-use Rattle.image_copies.specs.declared.copy_id.CopyKind.TheVariants.{Full, Inc}
+use Rattle.copy_vault.specs.declared.copy_id.CopyKind.TheVariants.{Full, Inc}
 use Rattle.copy_coverage.specs.Copied.{AreCopied, copy_in}
 use Rattle.copy_coverage.proofs.Public.{copied_dropped, copied_sealed}
 use Rattle.engine_calls.specs.declared.event.Answer.{Answer}

@@ -31,7 +31,7 @@ use Rattle.fuzzy_ckpt.specs.declared.point.Point.{Point}
 use Rattle.fuzzy_ckpt.specs.Ckpt.{AllCover, CkptView, Phase}
 use Rattle.fuzzy_ckpt.specs.LogCheckpoints.{IsLastPoint, gathered_of}
 use Rattle.fuzzy_ckpt.proofs.Public.{now_covers}
-use Rattle.image_copies.specs.Copy.{CopyView}
+use Rattle.copy_vault.specs.Copy.{CopyView}
 use Rattle.copy_vault.specs.Vault.{CopyState, complete, dropped, reading, state_of}
 use Rattle.copy_coverage.specs.Copied.{AreCopied, copy_in}
 use Rattle.copy_coverage.specs.Retired.{HasRoomForUndo}

@@ -28,11 +28,11 @@ use Rattle.log_store.specs.WrittenLog.{end_up_to}
 use Rattle.fuzzy_ckpt.specs.declared.point.Point.{Point}
 use Rattle.fuzzy_ckpt.specs.Ckpt.{AllCover, AreCovered, IsCkptOf}
 use Rattle.fuzzy_ckpt.specs.Steps.{Gathering, gather_step}
-use Rattle.image_copies.specs.declared.copy_id.CopyKind.{CopyKind}
-use Rattle.image_copies.specs.declared.copy_id.CopyKind.TheVariants.{Full, Inc}
-use Rattle.image_copies.specs.declared.copy_id.Decision.{Decision}
-use Rattle.image_copies.specs.declared.copy_id.Decision.TheVariants.{Taken, Kept}
-use Rattle.image_copies.specs.Copy.{CopyView}
+use Rattle.copy_vault.specs.declared.copy_id.CopyKind.{CopyKind}
+use Rattle.copy_vault.specs.declared.copy_id.CopyKind.TheVariants.{Full, Inc}
+use Rattle.copy_vault.specs.declared.copy_id.Decision.{Decision}
+use Rattle.copy_vault.specs.declared.copy_id.Decision.TheVariants.{Taken, Kept}
+use Rattle.copy_vault.specs.Copy.{CopyView}
 use Rattle.copy_vault.specs.Vault.{CopyState, answer_in, decided, opened, sealed, state_of}
 use Rattle.copy_vault.specs.Vault.{taken_in, without}
 use Rattle.copy_coverage.specs.Copied.{AreCopied, copy_in}

@@ -14,7 +14,7 @@ use Rattle.log_rules.specs.Transactions.{holder, is_open, is_rolling, last_of, o
 use Rattle.log_rules.specs.Transactions.{pending}
 use Rattle.buffer_pool.specs.Frames.{is_full, is_resident}
 use Rattle.buffer_pool.specs.Pool.{is_clean}
-use Rattle.image_copies.specs.Copy.{decision_at, is_undecided}
+use Rattle.page_decisions.specs.Decisions.{decision_at, is_undecided}
 use Rattle.copy_vault.specs.Vault.{CopyState, complete, complete_refusal, drop_refusal, dropped}
 use Rattle.copy_vault.specs.Vault.{inc_refusal}
 use Rattle.copy_vault.specs.Vault.{open_refusal, reading, seal_refusal, state_of}

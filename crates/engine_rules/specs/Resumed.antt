@@ -8,7 +8,7 @@ use Rattle.log_rules.specs.Linked.{IsLinked}
 use Rattle.log_rules.specs.Transactions.{open_in}
 use Rattle.buffer_pool.specs.Pool.{stored_states, writing_of, written_of}
 use Rattle.fuzzy_ckpt.specs.declared.point.Point.{Point}
-use Rattle.image_copies.specs.Copy.{CopyView}
+use Rattle.copy_vault.specs.Copy.{CopyView}
 use Rattle.copy_vault.specs.Vault.{CopyState, complete, reading, state_of}
 use Rattle.copy_coverage.specs.Copied.{AreRestorable}
 use Rattle.engine_rules.specs.EngineState.{EngineState}

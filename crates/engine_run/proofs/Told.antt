@@ -5,8 +5,8 @@ use Rattle.std.specs.List.{All, filter_map}
 use Rattle.std.proofs.lemmas.List.{get_or-append_right, get_or_append_left, length-append}
 use Rattle.std.proofs.lemmas.List.Elements.{All-cons, All-nil, All-weaker, filter_map-append}
 use Rattle.log_records.specs.Log.{Log, lsn_of}
-use Rattle.image_copies.specs.Copy.{CopyView}
-use Rattle.image_copies.specs.declared.copy_id.CopyKind.TheVariants.{Full}
+use Rattle.copy_vault.specs.Copy.{CopyView}
+use Rattle.copy_vault.specs.declared.copy_id.CopyKind.TheVariants.{Full}
 use Rattle.copy_vault.specs.Vault.{CopyState, complete, complete_of, dropped, reading, state_of}
 use Rattle.copy_coverage.specs.Copied.{Restores}
 use Rattle.copy_coverage.specs.Kept.{IsKeptOf}

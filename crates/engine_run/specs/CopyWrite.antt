@@ -4,9 +4,9 @@ use Rattle.std.specs.Io.KnownBytes.{Appends, Keeps}
 use Rattle.copy_vault.specs.declared.copy_write_fault.CopyWriteFault.{CopyWriteFault}
 use Rattle.copy_vault.specs.declared.copy_write_fault.CopyWriteFault.TheVariants.{Archive, Refused}
 use Rattle.copy_vault.specs.declared.fault.CopyFault.{CopyFault}
-use Rattle.copy_archives.specs.Archive.{archive_bytes}
-use Rattle.copy_archives.specs.ArchiveWrite.{Leaves}
-use Rattle.image_copies.specs.Copy.{CopyView, IsComplete}
+use Rattle.copy_vault.specs.Archive.{archive_bytes}
+use Rattle.copy_vault.specs.ArchiveWrite.{Leaves}
+use Rattle.copy_vault.specs.Copy.{CopyView, IsComplete}
 use Rattle.copy_vault.specs.Vault.{CopyState, OpenRefuses, complete_refusal}
 
 -- a copy has this id, and of each page it is decided

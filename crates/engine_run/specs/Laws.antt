@@ -1,7 +1,7 @@
 -- What a settled run tells.
 use Rattle.std.specs.Prelude.{ℕ, ◌≡◌, ◌<◌, true, false, List, length, slice_index_or}
 use Rattle.log_records.specs.declared.record.Record.{Record}
-use Rattle.image_copies.specs.Copy.{CopyView}
+use Rattle.copy_vault.specs.Copy.{CopyView}
 use Rattle.copy_vault.specs.Vault.{CopyState, complete, dropped, state_of}
 use Rattle.copy_coverage.specs.Copied.{Restores}
 use Rattle.settlement.specs.declared.receipt.Receipt.{Receipt}

@@ -5,8 +5,9 @@ use Rattle.std.specs.Prelude.{slice_index_or, Option, Some, None, IsSomeAnd}
 use Rattle.std.specs.List.{All, filter_map, sum_by}
 use Rattle.log_records.specs.declared.record.Record.{Record}
 use Rattle.log_records.specs.Log.{Log, lsn_of}
-use Rattle.image_copies.specs.declared.copy_id.CopyKind.{CopyKind}
-use Rattle.image_copies.specs.Copy.{CopyView, taken_count}
+use Rattle.copy_vault.specs.declared.copy_id.CopyKind.{CopyKind}
+use Rattle.page_decisions.specs.Decisions.{taken_count}
+use Rattle.copy_vault.specs.Copy.{CopyView}
 use Rattle.copy_vault.specs.Vault.{CopyState, complete_of, state_of}
 use Rattle.copy_coverage.specs.Retired.{RetiredView}
 use Rattle.settlement.specs.declared.receipt.Receipt.{Receipt}

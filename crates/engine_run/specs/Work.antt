@@ -1,7 +1,7 @@
 -- What a checkpoint or a copy answers.
 use Rattle.std.specs.Prelude.{◌≡◌}
-use Rattle.image_copies.specs.declared.copy_id.CopyKind.{CopyKind}
-use Rattle.image_copies.specs.declared.copy_id.CopyKind.TheVariants.{Full, Inc}
+use Rattle.copy_vault.specs.declared.copy_id.CopyKind.{CopyKind}
+use Rattle.copy_vault.specs.declared.copy_id.CopyKind.TheVariants.{Full, Inc}
 use Rattle.engine_calls.specs.declared.event.Event.{Event}
 use Rattle.engine_calls.specs.declared.event.Event.TheVariants.{CopyFull, CopyInc}
 use Rattle.engine_run.specs.declared.work.Work.{Work}

@@ -5,7 +5,7 @@ ghost use Rattle.std.specs.Prelude.{Result, Err};
 ghost use Rattle.std.specs.List.{All};
 ghost use Rattle.log_records.specs.declared.record.Record.{Record};
 ghost use Rattle.log_records.specs.Log.{Log, lsn_of};
-ghost use Rattle.image_copies.specs.Copy.{CopyView};
+ghost use Rattle.copy_vault.specs.Copy.{CopyView};
 ghost use Rattle.copy_vault.specs.Vault.{complete, state_of};
 ghost use Rattle.copy_coverage.specs.Copied.{Restores};
 ghost use Rattle.copy_coverage.specs.Kept.{IsKeptOf};

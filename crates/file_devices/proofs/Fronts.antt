@@ -59,7 +59,7 @@ begins_written front bytes old new at place torn holds begins =
           ∙ sym (get_or-append_right front bytes (length front) i 0 refl late)
     ]
 
--- the same of each content that a crash may leave
+-- each content that a crash may leave of such a write begins so
 pub begins_each_torn : (front : List ℕ) (old new : List ℕ → Type 0) (at n : ℕ) → length front ≤ at
     → Follows (Torn at n) old new → BeginsEach front old → BeginsEach front new
 begins_each_torn front old new at n under follows begins left is =

@@ -1,11 +1,12 @@
 //! A file of the system as a disk.
 
-ghost use Rattle.std.specs.Prelude.{◌≡◌, ◌<◌, ◌≤◌, ◌^◌, ◌∷◌, [], length, IfOk, IsTrue};
+ghost use Rattle.std.specs.Prelude.{ℕ, ◌≡◌, ◌<◌, ◌≤◌, ◌^◌, ◌∷◌, [], length, take, true, IfOk, IsTrue, List};
 ghost use Rattle.file_devices.specs.FileDisk.{disk_is_usable, event_of, events_of};
+ghost use Rattle.sqlite_disk.specs.Events.{IsHonest, flushed, read, settled};
 ghost use Rattle.sqlite_disk.specs.Refusal.{as_number, is_no_room};
 
 use crate::calls::SliceSnapshot;
-use sqlite_disk::{Modelled, Start, Wary, is_no_room};
+use sqlite_disk::{Modelled, Start, is_no_room};
 use std::fs::File;
 use std::io;
 use std::os::unix::fs::FileExt;
@@ -210,13 +211,13 @@ impl sqlite_disk::Calls for FileCalls {
     }
 }
 
-/// A file of the system as a disk: what it has, and what a crash may leave of it, follows from the
-/// calls that were made of it.
-pub type FileDisk = Modelled<FileCalls, Wary>;
+/// A file of the system as a disk: what it has, and what a crash may leave of it, follows from what
+/// it had when it was opened, which `S` supposes, and from the calls that were made of it since.
+pub type FileDisk<S> = Modelled<FileCalls, S>;
 
-/// The disk of a file of which nothing was asked yet. It counts as empty: who wants to know what the
-/// file has reads it, and trusts nothing of it before a sync.
-pub(crate) fn disk_of<S: Start>(file: File) -> Modelled<FileCalls, S>
+/// The disk of a file of which nothing was asked yet. A value of `S` is used up, so that no second
+/// file counts as having had the same bytes.
+pub(crate) fn disk_of<S: Start>(file: File, _start: S) -> FileDisk<S>
     ensures { IsTrue (disk_is_usable S.Start result) }
 {
     let calls = FileCalls {
@@ -225,3 +226,11 @@ pub(crate) fn disk_of<S: Start>(file: File) -> Modelled<FileCalls, S>
     };
     Modelled::new(calls, true, 0)
 }
+
+/// What is supposed of a log's file can be true, so a law that supposes it says something. A file had
+/// these bytes when it was opened; it gives the first ones, as many as were asked for, and syncs: then
+/// no wrong answer of it was taken.
+pub fn a_file_may_be_read_rightly()
+    ensures { (had : List ℕ) (count why : ℕ) → count ≤ length had → IsHonest had
+        (flushed true why ∷ read 0 count true (take count had) ∷ settled 0 ∷ []) }
+{}

@@ -15,7 +15,7 @@ use crate::file_disk::{FileDisk, disk_of};
 use crate::tracked_disk::TrackedDisk;
 use log_store::{DeviceFault, LogDevice};
 use page_core::Failures;
-use sqlite_disk::{Disk, Wary};
+use sqlite_disk::{Disk, Start, Wary};
 use std::alloc::Global;
 use std::fs::File;
 use std::io;
@@ -24,7 +24,7 @@ use std::marker::Model;
 /// A log's device on a disk, which is a file of the system if no other one is named. What is stored
 /// waits in memory, and a sync brings it to the disk by one write.
 #[derive(Drop)]
-pub struct FileLog<D: Disk = FileDisk> {
+pub struct FileLog<D: Disk = FileDisk<Wary>> {
     disk: TrackedDisk<D>,
     /// So many of its first bytes were synced.
     end: usize,
@@ -69,16 +69,17 @@ impl<D: Disk> Model for FileLog<D> {
     }) };
 }
 
-impl FileLog<FileDisk> {
+impl<S: Start> FileLog<FileDisk<S>> {
     /// A device on a file, which is emptied. The file is open for writing, and not for appending.
+    /// `S` supposes what the file had.
     ///
     /// An `Err` comes where it cannot be emptied.
-    pub fn new(alloc: Global, file: File) -> Result<FileLog<FileDisk>, FailedFile>
+    pub fn new(alloc: Global, file: File, start: S) -> Result<FileLog<FileDisk<S>>, FailedFile>
         ensures emptied { IfOk result (λ log. log.calls ≡ done (SetLen 0) ∷ []) }
         ensures bytes { IfOk result (λ log. bytes_of log ≡ []) }
         ensures not_emptied { IfErr result (λ why. why ≡ failed (SetLen 0) ∷ []) }
     {
-        FileLog::emptied(alloc, disk_of::<Wary>(file))
+        FileLog::emptied(alloc, disk_of(file, start))
     }
 
     /// A device on a file that has a log already. It fills the buffer with the first bytes of the
@@ -90,8 +91,9 @@ impl FileLog<FileDisk> {
     pub fn resume(
         alloc: Global,
         file: File,
+        start: S,
         buffer: &mut [u8],
-    ) -> Result<FileLog<FileDisk>, FailedFile>
+    ) -> Result<FileLog<FileDisk<S>>, FailedFile>
         ensures calls { IfOk result (λ log.
             log.calls ≡ done (Read 0 buffer.new) ∷ done Sync ∷ []) }
         ensures bytes { IfOk result (λ log. bytes_of log ≡ buffer.new) }
@@ -99,7 +101,7 @@ impl FileLog<FileDisk> {
         ensures failed { IfErr result (ResumeFails buffer.new) }
         ensures length { length buffer.new ≡ length buffer.old }
     {
-        FileLog::found(alloc, disk_of::<Wary>(file), buffer)
+        FileLog::found(alloc, disk_of(file, start), buffer)
     }
 }
 
@@ -337,7 +339,7 @@ impl<D: Disk + Drop> FileLog<D> {
     }
 
     /// Waits until all bytes last. It is told whether the disk has no others then.
-    fn settle(&mut self, is_clear: bool) -> Result<(), DeviceFault>
+    fn sync_disk(&mut self, is_clear: bool) -> Result<(), DeviceFault>
         requires usable { IsTrue self.old.is_usable }
         requires seen { IsTrusted D.is_clean self.old
             → Begins (bytes_of self.old) (D.seen self.old.disk) }
@@ -422,10 +424,10 @@ impl<D: Disk + Drop> LogDevice for FileLog<D> {
         }
         if !self.has_stored {
             let is_clear = self.is_clear;
-            return self.settle(is_clear);
+            return self.sync_disk(is_clear);
         }
         self.cut()?;
         self.write()?;
-        self.settle(true)
+        self.sync_disk(true)
     }
 }

@@ -12,6 +12,7 @@ mod tracked_disk;
 mod tracked_file;
 
 pub use failed_file::FailedFile;
-pub use file_disk::{FileCalls, FileDisk};
+pub use file_disk::{FileCalls, FileDisk, a_file_may_be_read_rightly};
 pub use file_log::FileLog;
 pub use file_store::FileStore;
+pub use sqlite_disk::{Start, Wary};

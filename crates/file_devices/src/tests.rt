@@ -7,7 +7,7 @@ use crate::{FileLog, FileStore};
 use log_store::{DeviceFault, LogDevice};
 use page_core::{Change, Lsn, Page, PageNo, SlotNo};
 use page_store::{MemStore, PageStore, StoreFault};
-use sqlite_disk::{Crash, Disk, Fuse, Memory};
+use sqlite_disk::{Crash, Disk, Fuse, Memory, Wary};
 use std::fs::File;
 use std::io::ErrorKind;
 use std::os::unix::fs::FileExt;
@@ -46,7 +46,7 @@ fn store_again<D: LogDevice>(log: &mut D) -> Result<(), DeviceFault>
 #[test]
 fn a_log_is_cut_before_it_is_stored(rt: HostRuntime) -> Result<(), Fail> {
     let place = own_place(&rt, "log")?;
-    let mut log = FileLog::new(rt.alloc(), file_of(&rt, &place, &[255; 100])?)?;
+    let mut log = FileLog::new(rt.alloc(), file_of(&rt, &place, &[255; 100])?, Wary)?;
     assert_eq!(rt; fs::read(&rt, place.as_path())?.len(), 0);
     store_again(&mut log)?;
     let stored = fs::read(&rt, place.as_path())?;
@@ -60,7 +60,7 @@ fn a_log_goes_on_in_its_file(rt: HostRuntime) -> Result<(), Fail> {
     let place = own_place(&rt, "resumed")?;
     let file = file_of(&rt, &place, b"first last, and what a crash has torn")?;
     let mut front = [0; 10];
-    let mut log = FileLog::resume(rt.alloc(), file, &mut front)?;
+    let mut log = FileLog::resume(rt.alloc(), file, Wary, &mut front)?;
     assert!(rt; front == *b"first last");
     log.store(10, b" of all")?;
     log.sync()?;
@@ -74,7 +74,12 @@ fn a_log_goes_on_in_its_file(rt: HostRuntime) -> Result<(), Fail> {
 fn a_file_that_is_shorter_than_its_log_is_refused(rt: HostRuntime) -> Result<(), Fail> {
     let place = own_place(&rt, "short")?;
     let mut front = [0; 10];
-    let refused = FileLog::resume(rt.alloc(), file_of(&rt, &place, b"first")?, &mut front);
+    let refused = FileLog::resume(
+        rt.alloc(),
+        file_of(&rt, &place, b"first")?,
+        Wary,
+        &mut front,
+    );
     assert!(rt; refused.is_err());
     fs::remove_file(&rt, place.as_path())?;
     Ok(())
@@ -84,7 +89,7 @@ fn a_file_that_is_shorter_than_its_log_is_refused(rt: HostRuntime) -> Result<(),
 fn a_file_that_cannot_be_written_is_refused(rt: HostRuntime) -> Result<(), Fail> {
     let place = own_place(&rt, "locked")?;
     let _ = file_of(&rt, &place, b"bytes")?;
-    let refused = FileLog::new(rt.alloc(), fs::open(&rt, place.as_path())?);
+    let refused = FileLog::new(rt.alloc(), fs::open(&rt, place.as_path())?, Wary);
     let why = refused.err().ok_or("the file was emptied")?;
     assert_eq!(rt; why.error.kind(), ErrorKind::InvalidInput);
     assert!(rt; format!(in rt.alloc(); "{why}")? == format!(in rt.alloc(); "{}", why.error)?);
@@ -130,7 +135,7 @@ fn what_was_synced_outlasts_a_crash_at_each_call(rt: HostRuntime) -> Result<(), 
 #[test]
 fn a_store_waits_for_the_sync(rt: HostRuntime) -> Result<(), Fail> {
     let place = own_place(&rt, "waits")?;
-    let mut log = FileLog::new(rt.alloc(), file_of(&rt, &place, b"old")?)?;
+    let mut log = FileLog::new(rt.alloc(), file_of(&rt, &place, b"old")?, Wary)?;
     log.store(0, b"first")?;
     log.store(5, b" second")?;
     assert_eq!(rt; fs::read(&rt, place.as_path())?.len(), 0);

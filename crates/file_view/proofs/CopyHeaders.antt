@@ -8,15 +8,16 @@ use Rattle.page_core.specs.declared.format.Format.{Format}
 use Rattle.page_core.specs.declared.page.Page.{Page}
 use Rattle.page_core.specs.Format.{digit_of}
 use Rattle.page_core.specs.Page.{volume_bytes}
-use Rattle.image_copies.specs.declared.copy_id.CopyKind.{CopyKind}
-use Rattle.image_copies.specs.declared.copy_id.CopyKind.TheVariants.{Full, Inc}
-use Rattle.image_copies.specs.Copy.{CopyView, taken_pages}
-use Rattle.copy_archives.specs.declared.archive_fault.ArchiveFault.{ArchiveFault}
-use Rattle.copy_archives.specs.declared.archive_fault.ArchiveFault.TheVariants.{BadArchive, CountDiffers, OutOfMemory, ReadFault}
-use Rattle.copy_archives.specs.declared.header.ArchiveHeader.{ArchiveHeader}
-use Rattle.copy_archives.specs.Archive.{IsHeader, IsKindOf, SpellsCopy, front_bytes, header_bytes, header_in, header_of}
-use Rattle.copy_archives.specs.Archive.{parent_of}
-use Rattle.copy_archives.specs.ArchiveFault.{Begins, Refuses, SpellsHeader}
+use Rattle.copy_vault.specs.declared.copy_id.CopyKind.{CopyKind}
+use Rattle.copy_vault.specs.declared.copy_id.CopyKind.TheVariants.{Full, Inc}
+use Rattle.page_decisions.specs.Decisions.{taken_pages}
+use Rattle.copy_vault.specs.Copy.{CopyView}
+use Rattle.copy_vault.specs.declared.archive_fault.ArchiveFault.{ArchiveFault}
+use Rattle.copy_vault.specs.declared.archive_fault.ArchiveFault.TheVariants.{BadArchive, CountDiffers, OutOfMemory, ReadFault}
+use Rattle.copy_vault.specs.declared.header.ArchiveHeader.{ArchiveHeader}
+use Rattle.copy_vault.specs.Archive.{IsHeader, IsKindOf, SpellsCopy, front_bytes, header_bytes, header_in, header_of}
+use Rattle.copy_vault.specs.Archive.{parent_of}
+use Rattle.copy_vault.specs.ArchiveFault.{Begins, Refuses, SpellsHeader}
 use Rattle.file_view.specs.CopyHeader.{RefusesHeader}
 
 -- ---- the bytes of a header

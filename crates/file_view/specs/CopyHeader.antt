@@ -1,13 +1,13 @@
 -- The header of an archive, as it is shown.
 use Rattle.std.specs.Prelude.{ℕ, ◌≡◌, List, take}
-use Rattle.copy_archives.specs.declared.archive_fault.ArchiveFault.{ArchiveFault}
-use Rattle.copy_archives.specs.declared.archive_fault.ArchiveFault.TheVariants.{BadArchive}
-use Rattle.copy_archives.specs.declared.archive_fault.ArchiveFault.TheVariants.{CountDiffers}
-use Rattle.copy_archives.specs.declared.archive_fault.ArchiveFault.TheVariants.{OutOfMemory}
-use Rattle.copy_archives.specs.declared.archive_fault.ArchiveFault.TheVariants.{ReadFault}
-use Rattle.copy_archives.specs.declared.header.ArchiveHeader.{ArchiveHeader}
-use Rattle.copy_archives.specs.Archive.{IsHeader, header_bytes, parent_of}
-use Rattle.copy_archives.specs.ArchiveFault.{SpellsHeader}
+use Rattle.copy_vault.specs.declared.archive_fault.ArchiveFault.{ArchiveFault}
+use Rattle.copy_vault.specs.declared.archive_fault.ArchiveFault.TheVariants.{BadArchive}
+use Rattle.copy_vault.specs.declared.archive_fault.ArchiveFault.TheVariants.{CountDiffers}
+use Rattle.copy_vault.specs.declared.archive_fault.ArchiveFault.TheVariants.{OutOfMemory}
+use Rattle.copy_vault.specs.declared.archive_fault.ArchiveFault.TheVariants.{ReadFault}
+use Rattle.copy_vault.specs.declared.header.ArchiveHeader.{ArchiveHeader}
+use Rattle.copy_vault.specs.Archive.{IsHeader, header_bytes, parent_of}
+use Rattle.copy_vault.specs.ArchiveFault.{SpellsHeader}
 use Rattle.file_view.specs.declared.copy_header.CopyHeader.{CopyHeader}
 
 -- what is shown of it

@@ -41,13 +41,13 @@ IsFlawOf header bytes log None =
 abbrev pub lacking_from : CopyRow → Option ℕ
 lacking_from row = if is_some row.flaw then Some row.header.id else row.missing
 
--- the same from the copy of an id down
+-- the nearest such copy from that of an id down
 abbrev pub lacking_at : ℕ → List CopyRow → Option ℕ
 lacking_at id [] = Some id
 lacking_at id (row ∷ rows) =
     if nat_eq row.header.id id then lacking_from row else lacking_at id rows
 
--- the same below a copy with this parent; a full one stands on none
+-- the nearest such copy below one with this parent; a full one stands on none
 abbrev pub lacking_below : ℕ → List CopyRow → Option ℕ
 lacking_below parent rows = if nat_eq parent 0 then None else lacking_at parent rows
 

@@ -37,7 +37,7 @@ abbrev pub with_commas : List (List ℕ) → List ℕ
 with_commas [] = []
 with_commas (text ∷ texts) = text ++ flat_map (λ it. codes "," ++ it) texts
 
--- the same in JSON: an object, whose slots are an array
+-- a page in JSON: an object, whose slots are an array
 abbrev pub page_json : Page → List ℕ
 page_json page =
     codes "{\"page\":" ++ decimal page.number ++ codes ",\"lsn\":" ++ decimal page.lsn

@@ -3,10 +3,10 @@
 ghost use Rattle.std.specs.Prelude.{◌≡◌, ◌≢◌, ◌+◌, ◌*◌, IfErr, IfOk, OnOk, length};
 ghost use Rattle.page_core.specs.declared.format.Format.{Format};
 ghost use Rattle.page_core.specs.Format.{digit_of};
-ghost use Rattle.copy_archives.specs.declared.archive_fault.ArchiveFault.TheVariants.{CountDiffers};
-ghost use Rattle.copy_archives.specs.declared.header.ArchiveHeader.{ArchiveHeader};
-ghost use Rattle.copy_archives.specs.Archive.{IsHeader, header_bytes};
-ghost use Rattle.copy_archives.specs.ArchiveFault.{SpellsHeader};
+ghost use Rattle.copy_vault.specs.declared.archive_fault.ArchiveFault.TheVariants.{CountDiffers};
+ghost use Rattle.copy_vault.specs.declared.header.ArchiveHeader.{ArchiveHeader};
+ghost use Rattle.copy_vault.specs.Archive.{IsHeader, header_bytes};
+ghost use Rattle.copy_vault.specs.ArchiveFault.{SpellsHeader};
 ghost use Rattle.file_view.specs.CopyHeader.{IsHeaderOf, RefusesHeader, shown_of};
 
 use copy_vault::{ArchiveFault, read_archive};

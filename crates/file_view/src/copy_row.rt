@@ -110,7 +110,7 @@ fn missing_at(rows: &[CopyRow], id: u32) -> Option<u32>
     Some(id)
 }
 
-/// The same from a copy of which there is an archive.
+/// The nearest copy, from one of which there is an archive on, that has none or has a flaw.
 fn missing_from(row: &CopyRow) -> Option<u32>
     ensures { result ≡ lacking_from row.now }
 {

@@ -4,7 +4,7 @@ ghost use Rattle.std.specs.Prelude.{◌≡◌};
 ghost use Rattle.file_view.specs.declared.fault.ViewFault.TheVariants.{OutOfMemory};
 
 use copy_vault::ArchiveFault;
-use log_front::FrontFault;
+use log_prefix::FrontFault;
 use log_store::LogReadFault;
 use page_core::FaultName;
 use std::alloc::{AllocError, AllocFailed};

@@ -54,7 +54,7 @@ impl fmt::Display for KindWords {
     }
 }
 
-/// The same in JSON.
+/// The kind of a copy in JSON, by its parent.
 #[derive(Clone, Copy)]
 struct KindJson(u32);
 
@@ -197,7 +197,7 @@ impl fmt::Display for Head {
     }
 }
 
-/// The same as an object of JSON.
+/// What a head says, as an object of JSON.
 #[derive(Clone, Copy)]
 pub struct HeadJson(pub Head);
 

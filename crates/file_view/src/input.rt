@@ -25,7 +25,7 @@ pub fn read_file<R: Read>(alloc: Global, reader: &mut R) -> Result<Vec<u8>, View
     read_through(alloc, reader, &mut piece)
 }
 
-/// The same, a piece after another.
+/// Reads the bytes of a file, a piece after another.
 fn read_through<R: Read>(
     alloc: Global,
     reader: &mut R,

@@ -13,7 +13,7 @@ use crate::page_row::put_page;
 use crate::record_line::put_record;
 use crate::wanted::Wanted;
 use copy_vault::{ArchiveFault, read_archive};
-use log_front::read_front;
+use log_prefix::read_front;
 use log_records::{HEADER_BYTES, RECORD_BYTES, log_header};
 use log_store::decode_master;
 use page_core::{PAGE_BYTES, Page};

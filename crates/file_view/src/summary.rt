@@ -9,7 +9,7 @@ use crate::head::{Head, HeaderJson};
 use crate::lines::Form;
 use crate::log_summary::LogSummary;
 use crate::show::put_head;
-use log_front::{Cut, FrontScan, scan_front};
+use log_prefix::{Cut, FrontScan, scan_front};
 use log_records::{HEADER_BYTES, LogHeader, MAX_OPEN, RECORD_BYTES, log_header};
 use log_store::CkptPoint;
 use page_core::{FaultName, LSN_STEP, Lsn, PageCounts, TxnNo};

@@ -4,3 +4,4 @@ pub mod Ends
 pub mod Manifests
 pub mod ReadFiles
 pub mod Unfinished
+pub mod VolumeOutputs

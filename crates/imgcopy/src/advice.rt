@@ -11,13 +11,13 @@ use event_script::{BadLine, MAX_SCRIPT_BYTES, ScriptFault};
 use log_store::LogReadFault;
 use media_restore::{RestoreFault, UntilFault};
 use saved_files::{SaveFault, SavedName};
-use script_run::RunFault;
+use script_run::ScriptRunFault;
 use std::alloc::{AllocError, Global};
 use std::io::ErrorKind;
 use std::path::Path;
 use std::rt::Files;
 use std::{fs, io};
-use system_files::{Escaped, Notes, SystemFolder};
+use system_files::{Escaped, Notes};
 
 /// Names the file in which a restore from files met its fault, and says what is wrong with it, or
 /// why the system failed there. It is the one that was read last.
@@ -115,22 +115,22 @@ fn tell_file(
 /// Tells what is wrong with a script that was not played, or why its replies could not be written.
 pub fn tell_script(
     rt: &impl Eprint,
-    fault: &RunFault,
+    fault: &ScriptRunFault,
     script: &[u8],
     input: &Notes,
     output: &Notes,
 ) {
     let _ = match fault {
-        RunFault::Script(ScriptFault::BadLine(number, why)) => {
+        ScriptRunFault::Script(ScriptFault::BadLine(number, why)) => {
             let why = BadLine::of(*why, script, *number);
             eprintln!(rt; "imgcopy: line {number}: {why}")
         }
-        RunFault::Script(ScriptFault::Input) => {
+        ScriptRunFault::Script(ScriptFault::Input) => {
             eprintln!(rt; "imgcopy: standard input: not UTF-8, or over {MAX_SCRIPT_BYTES} bytes")
         }
-        RunFault::Script(ScriptFault::ReadFault) => return tell_unread(rt, input),
-        RunFault::WriteFault(_) => return tell_unwritten(rt, output),
-        RunFault::Script(ScriptFault::OutOfMemory) | RunFault::OutOfMemory => return,
+        ScriptRunFault::Script(ScriptFault::ReadFault) => return tell_unread(rt, input),
+        ScriptRunFault::WriteFault(_) => return tell_unwritten(rt, output),
+        ScriptRunFault::Script(ScriptFault::OutOfMemory) | ScriptRunFault::OutOfMemory => return,
     };
 }
 
@@ -151,13 +151,12 @@ pub fn tell_unwritten(rt: &impl Eprint, notes: &Notes) {
 /// Says why the files were not saved, and which names have their new file already.
 pub fn tell_unsaved(
     rt: &HostRuntime,
-    there: &SystemFolder<'_>,
     folder: &str,
     fault: &SaveFault,
     retired: &Retired,
     notes: &Notes,
 ) {
-    tell_why_unsaved(rt, there, folder, fault, notes);
+    tell_why_unsaved(rt, folder, fault, notes);
     let stopped = match fault {
         SaveFault::Unclaimed(_) => return,
         SaveFault::Unsaved(file, _) => Some(*file),
@@ -175,13 +174,7 @@ pub fn tell_unsaved(
 }
 
 /// Says what befell the folder, or the file that was not saved.
-fn tell_why_unsaved(
-    rt: &impl Eprint,
-    there: &SystemFolder<'_>,
-    folder: &str,
-    fault: &SaveFault,
-    notes: &Notes,
-) {
+fn tell_why_unsaved(rt: &impl Eprint, folder: &str, fault: &SaveFault, notes: &Notes) {
     let folder = Escaped(folder);
     let SaveFault::Unsaved(file, _) = fault else {
         let _ = match notes.error() {
@@ -190,15 +183,12 @@ fn tell_why_unsaved(
         };
         return;
     };
-    let _ = match (there.refused(), notes.error()) {
-        (Some(kept), _) => {
-            eprintln!(rt; "imgcopy: {folder}/{file}: {kept}: --force replaces it")
-        }
-        (None, Some(error)) if error.kind() == ErrorKind::WouldBlock => {
+    let _ = match notes.error() {
+        Some(error) if error.kind() == ErrorKind::WouldBlock => {
             eprintln!(rt; "imgcopy: {folder}/{file}: another one has this log open")
         }
-        (None, Some(error)) => eprintln!(rt; "imgcopy: {folder}/{file}: {error}"),
-        (None, None) => eprintln!(rt; "imgcopy: {folder}/{file}: not saved"),
+        Some(error) => eprintln!(rt; "imgcopy: {folder}/{file}: {error}"),
+        None => eprintln!(rt; "imgcopy: {folder}/{file}: not saved"),
     };
 }
 
@@ -232,8 +222,8 @@ pub fn new_names(
     Ok(names)
 }
 
-/// Names the files of a folder that look like those of a run, and are not of this one: they do not
-/// fit the log that was saved beside them.
+/// Names the files of a folder that are of another run, by their names: nothing says that they fit
+/// the log that was saved beside them.
 pub fn tell_stale<R: Files + Eprint>(rt: &R, alloc: Global, folder: &str, retired: &Retired) {
     if let Ok(names) = stale_names(rt, alloc, folder, retired) {
         if !names.is_empty() {

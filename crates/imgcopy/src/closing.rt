@@ -1,6 +1,6 @@
 //! The note of a closing, which says where the log of a folder ended.
 
-ghost use Rattle.open_database.specs.Found.{IsReadOf, SpellsNumber};
+ghost use Rattle.database_files.specs.Found.{IsReadOf, SpellsNumber};
 ghost use Rattle.imgcopy.specs.Closing.{SpellsEnd};
 
 use crate::list::tell_irregular;

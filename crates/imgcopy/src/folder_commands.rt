@@ -2,14 +2,16 @@
 
 ghost use Rattle.std.specs.Prelude.{◌≡◌, IsSome, IsTrue};
 ghost use Rattle.std.specs.Process.{exit_status};
-ghost use Rattle.open_database.specs.Backups.{WasBackedUp};
-ghost use Rattle.open_database.specs.ClosedVolume.{WasRenewed};
+ghost use Rattle.database_backup.specs.Backups.{WasBackedUp};
+ghost use Rattle.database_backup.specs.ClosedVolume.{WasRenewed};
 ghost use Rattle.imgcopy.specs.Ends.{status_of_closed};
 
 use crate::leftovers::{UNFINISHED_NAME, is_unfinished};
 use crate::output::{parts_of, tell};
-use open_database::{BackupCall, OpenEnd, RenewCall, backup_folder, renew_folder};
+use database_backup::{BackupCall, RenewCall, backup_folder, renew_folder};
+use open_database::OpenEnd;
 use script_run::FAULT_STATUS;
+use sqlite_disk::Start;
 use std::process::ExitCode;
 
 /// What is told where a copy is to stand on another one, and on none.
@@ -20,7 +22,7 @@ For more information, try '--help'.";
 
 /// Makes a checkpoint and an image copy of the closed database in this folder: on the copy of this
 /// number, or on the newest one, or a full copy.
-pub(crate) fn backup(rt: &HostRuntime, call: &BackupCall<'_>) -> ExitCode
+pub(crate) fn backup<S: Start>(rt: &HostRuntime, call: &BackupCall<'_>, start: S) -> ExitCode
     ensures done { exit_status result ≡ 0 → WasBackedUp call.now.full call.now.on }
     ensures both { IsTrue call.now.full → IsSome call.now.on → exit_status result ≡ 2 }
 {
@@ -28,11 +30,11 @@ pub(crate) fn backup(rt: &HostRuntime, call: &BackupCall<'_>) -> ExitCode
         let _ = eprintln!(rt; "{ON_AND_FULL}");
         return ExitCode::from(FAULT_STATUS);
     }
-    status_of(backup_folder(rt, call))
+    status_of(backup_folder(rt, call, start))
 }
 
 /// Makes a database in the new folder of the numbers of the closed one in the old folder.
-pub(crate) fn renew(rt: &HostRuntime, old: &str, new: &str) -> ExitCode
+pub(crate) fn renew<S: Start>(rt: &HostRuntime, old: &str, new: &str, start: S) -> ExitCode
     ensures { exit_status result ≡ 0 → WasRenewed }
 {
     let path = new.trim_end_matches('/');
@@ -44,7 +46,7 @@ pub(crate) fn renew(rt: &HostRuntime, old: &str, new: &str) -> ExitCode
         tell(rt, new, &UNFINISHED_NAME);
         return ExitCode::from(FAULT_STATUS);
     }
-    status_of(renew_folder(rt, &RenewCall { old, folder, name }))
+    status_of(renew_folder(rt, &RenewCall { old, folder, name }, start))
 }
 
 fn status_of(end: OpenEnd) -> ExitCode

@@ -23,31 +23,36 @@ mod manifest_output;
 mod manifests;
 mod output;
 mod output_folder;
+mod program_fault;
 mod read_once;
 mod reasons;
 mod redone_volume;
 mod restore_folder;
 mod restores;
+mod save_folder;
 mod saving;
 mod strict;
 mod untils;
 mod verify;
 mod view;
+mod volume_output;
 
 use advice::{tell_script, tell_unread, tell_unwritten};
 use aries_core::Setup;
 use audits::audit;
 use checked_files::ManifestUse;
 use command_words::{Command, command_of, words_of};
+use database_backup::BackupCall;
 use event_script::MAX_SCRIPT_BYTES;
 use file_view::{Form, Wanted};
 use folder_commands::{backup, renew};
 use list::list;
-use open_database::{BackupCall, OpenCall, OpenEnd, open_folder};
+use open_database::{OpenCall, OpenEnd, open_folder};
 use output::{Inputs, Limits, tell_output};
 use output_folder::OutputFolder;
 use page_core::{FaultName, Lsn, PageNo, TxnNo};
 use page_redo::{StreamFault, redo_stream};
+use program_fault::ProgramFault;
 use reasons::{Named, tell_redo};
 use redone_volume::RedoneVolume;
 use restore_folder::{FolderRestore, restore_folder};
@@ -55,34 +60,21 @@ use restores::{Outputs, restore};
 use saved_files::{PutFault, PutStoredFault, put_and_store};
 use saving::Saving;
 use script_run::{
-    FAULT_STATUS, FinishFault, REFUSED_STATUS, Ran, RunFault, finish_script, refused_status,
+    FAULT_STATUS, FinishFault, REFUSED_STATUS, Ran, ScriptRunFault, finish_script, refused_status,
     run_script,
 };
+use sqlite_disk::{Start, Wary};
 use std::fmt::Display;
-use std::io::{IsTerminal, Read, Write};
+use std::io::{Read, Write};
 use std::process::ExitCode;
 use std::thread::Threads;
 use std::{fmt, io};
 use strict::{Kept, Refusals, Tallied, line_of_call};
-use system_files::{EscapedText, Noted, Notes, Patient};
+use system_files::{EscapedText, Noted, Notes, RetryWouldBlock};
 use untils::{redo_until_into, redo_until_out};
 use verify::verify;
 use view::show;
-
-/// What is told where `redo` may replace a file, and names none.
-const LACKS_OUTPUT: &str = "\
-error: --force needs the argument:
-  --output <FILE>
-
-Usage: imgcopy redo [OPTIONS] < LOG
-
-For more information, try '--help'.";
-
-/// What is told where a manifest is named, and none is to count.
-const BOTH_MANIFESTS: &str = "\
-error: the argument '--manifest <FILE>' cannot be used with '--no-manifest'
-
-For more information, try '--help'.";
+use volume_output::VolumeOutput;
 
 /// How many bytes of a script are kept at most, to show a bad line.
 const MOST_KEPT: usize = 65_536;
@@ -93,33 +85,37 @@ fn main(rt: HostRuntime) -> ExitCode {
         Err(fault) => return told_whole(&rt, &EscapedText(&fault)),
     };
     match command_of(rt.alloc(), words.as_slice()) {
-        Ok(Command::Redo) => redo(&rt),
+        Ok(Command::Redo) => redo_out(&rt, VolumeOutput::Piped, None),
         Ok(
             Command::RedoInto {
                 output,
                 force,
                 until,
             },
-        ) => match (output, lsn_of(until)) {
-            (None, _) if force => {
-                let _ = eprintln!(rt; "{LACKS_OUTPUT}");
-                ExitCode::from(FAULT_STATUS)
-            }
-            (None, None) => redo(&rt),
-            (Some(path), None) => redo_into(&rt, path, force),
-            (None, Some(until)) => redo_until_out(&rt, until),
-            (Some(path), Some(until)) => redo_until_into(&rt, path, force, until),
+        ) => match (VolumeOutput::of(output), lsn_of(until)) {
+            (VolumeOutput::Piped, _) if force => told(&rt, &ProgramFault::NoOutput),
+            (VolumeOutput::File(path), None) => redo_into(&rt, path, force),
+            (VolumeOutput::File(path), Some(until)) => redo_until_into(&rt, path, force, until),
+            (output, until) => redo_out(&rt, output, until),
         },
         Ok(
             Command::Run {
                 pages,
                 frames,
                 save,
+                manifest,
                 strict,
                 force,
             },
         ) => {
-            let save = save.map(|folder| Saving { folder, force });
+            if manifest && save.is_none() {
+                return told(&rt, &ProgramFault::NoFolder);
+            }
+            let save = save.map(|folder| Saving {
+                folder,
+                manifest,
+                force,
+            });
             run(&rt, &rt, Setup { pages, frames }, save, strict)
         }
         Ok(
@@ -138,7 +134,7 @@ fn main(rt: HostRuntime) -> ExitCode {
                 salvage,
                 strict,
             };
-            open(&rt, &call)
+            open(&rt, &call, Wary)
         }
         Ok(
             Command::Restore {
@@ -154,7 +150,7 @@ fn main(rt: HostRuntime) -> ExitCode {
             },
         ) => {
             let Some(manifest) = ManifestUse::of(manifest, no_manifest) else {
-                return told(&rt, &BOTH_MANIFESTS);
+                return told(&rt, &ProgramFault::TwoManifests);
             };
             let names = Named {
                 log,
@@ -164,7 +160,7 @@ fn main(rt: HostRuntime) -> ExitCode {
                 manifest,
             };
             let outputs = Outputs {
-                volume: output,
+                volume: VolumeOutput::of(output),
                 log: log_output,
                 force,
             };
@@ -183,7 +179,7 @@ fn main(rt: HostRuntime) -> ExitCode {
             },
         ) => {
             let Some(manifest) = ManifestUse::of(manifest, no_manifest) else {
-                return told(&rt, &BOTH_MANIFESTS);
+                return told(&rt, &ProgramFault::TwoManifests);
             };
             let wanted = FolderRestore {
                 folder,
@@ -192,7 +188,7 @@ fn main(rt: HostRuntime) -> ExitCode {
                 manifest,
             };
             let outputs = Outputs {
-                volume: output,
+                volume: VolumeOutput::of(output),
                 log: log_output,
                 force,
             };
@@ -210,7 +206,7 @@ fn main(rt: HostRuntime) -> ExitCode {
             },
         ) => {
             let Some(manifest) = ManifestUse::of(manifest, no_manifest) else {
-                return told(&rt, &BOTH_MANIFESTS);
+                return told(&rt, &ProgramFault::TwoManifests);
             };
             let names = Named {
                 log,
@@ -250,7 +246,7 @@ fn main(rt: HostRuntime) -> ExitCode {
             },
         ) => match ManifestUse::of(manifest, no_manifest) {
             Some(manifest) => list(&rt, folder, form_of(json), manifest),
-            None => told(&rt, &BOTH_MANIFESTS),
+            None => told(&rt, &ProgramFault::TwoManifests),
         },
         Ok(
             Command::Backup {
@@ -266,7 +262,7 @@ fn main(rt: HostRuntime) -> ExitCode {
                 full,
                 into,
             };
-            backup(&rt, &call)
+            backup(&rt, &call, Wary)
         }
         Ok(
             Command::Verify {
@@ -276,9 +272,9 @@ fn main(rt: HostRuntime) -> ExitCode {
             },
         ) => match ManifestUse::of(manifest, no_manifest) {
             Some(manifest) => verify(&rt, &rt, folder, manifest),
-            None => told(&rt, &BOTH_MANIFESTS),
+            None => told(&rt, &ProgramFault::TwoManifests),
         },
-        Ok(Command::Renew { old, new }) => renew(&rt, old, new),
+        Ok(Command::Renew { old, new }) => renew(&rt, old, new, Wary),
         Ok(Command::Version) => answered(&rt, &Version, 0),
         Err(fault) => told_whole(&rt, &EscapedText(&fault)),
     }
@@ -292,11 +288,19 @@ fn lsn_of(number: Option<u32>) -> Option<Lsn> {
     Some(Lsn(number? as u64))
 }
 
-/// Rebuilds the volume of the log on standard input.
-fn redo(rt: &HostRuntime) -> ExitCode {
-    if rt.stdout().is_terminal() {
+/// Rebuilds the volume of the log on standard input, up to the record at an LSN, if one is told.
+fn redo_out(rt: &HostRuntime, output: VolumeOutput<'_>, until: Option<Lsn>) -> ExitCode {
+    if output.is_barred(rt) {
         return refused_terminal(rt);
     }
+    match until {
+        Some(until) => redo_until_out(rt, until),
+        None => redo(rt),
+    }
+}
+
+/// Rebuilds the volume of all of the log on standard input.
+fn redo(rt: &HostRuntime) -> ExitCode {
     let (input, output) = (Notes::new(), Notes::new());
     let done = redo_stream(
         rt.alloc(),
@@ -342,13 +346,13 @@ fn redo_into(rt: &HostRuntime, path: &str, force: bool) -> ExitCode {
     }
 }
 
-/// No volume is written to a terminal.
+/// No volume is written to a terminal that is not asked for.
 pub(crate) fn refused_terminal(rt: &impl Eprint) -> ExitCode
     ensures { exit_status result ≡ 2 }
 {
     let _ = eprintln!(rt; "{} 0", FaultName::WriteFault);
     let _ = eprintln!(rt;
-        "imgcopy: standard output is a terminal: name a file by -o, or redirect it"
+        "imgcopy: standard output is a terminal: name a file by -o, redirect it, or add -o -"
     );
     ExitCode::from(FAULT_STATUS)
 }
@@ -378,7 +382,7 @@ fn run(
     let status = match played(rt, threads, setup, save, &mut reader, &mut writer) {
         Ok(status) => status,
         Err(fault) => {
-            let status = told(rt, &fault);
+            let status = told(rt, &ProgramFault::from(fault));
             tell_script(rt, &fault, reader.given(), &input, &output);
             return status;
         }
@@ -413,7 +417,7 @@ fn played<R: Read, W: Write>(
     save: Option<Saving<'_>>,
     reader: &mut R,
     writer: &mut W,
-) -> Result<u8, RunFault>
+) -> Result<u8, ScriptRunFault>
     requires pages { IsPageCount setup.pages }
     requires frames { IsFrameCount setup.frames }
 {
@@ -448,13 +452,13 @@ fn finish(
 }
 
 /// Opens a database, and answers the lines of standard input.
-fn open(rt: &HostRuntime, call: &OpenCall<'_>) -> ExitCode
+fn open<S: Start>(rt: &HostRuntime, call: &OpenCall<'_>, start: S) -> ExitCode
     requires pages { IfSome call.now.pages IsPageCount }
     requires frames { IsFrameCount call.now.frames }
     ensures { exit_status result ≢ 2 → (written : Option (List ℕ))
         × LivedByAllLines None None call.now.salvage call.now.pages call.now.frames None written }
 {
-    status_of_open(open_folder(rt, call))
+    status_of_open(open_folder(rt, call, start))
 }
 
 fn status_of_open(end: OpenEnd) -> ExitCode
@@ -497,7 +501,7 @@ fn status_of_finish(rt: &impl Eprint, done: &Result<(), FinishFault>) -> u8
         // Its line is on standard output.
         Err(FinishFault::Refused(why)) => refused_status(why),
         Err(fault) => {
-            let _ = rt.eprintln(fault);
+            let _ = rt.eprintln(&ProgramFault::from(*fault));
             FAULT_STATUS
         }
     }
@@ -513,7 +517,7 @@ impl Display for Version {
 }
 
 /// Tells a fault on standard error, and answers its status.
-fn told(rt: &impl Eprint, fault: &impl Display) -> ExitCode
+fn told(rt: &impl Eprint, fault: &ProgramFault) -> ExitCode
     ensures { exit_status result ≡ 2 }
 {
     let _ = rt.eprintln(fault);
@@ -537,7 +541,7 @@ fn status_of(rt: &impl Eprint, done: &Result<(), StreamFault>) -> ExitCode
 {
     match done {
         Ok(()) => ExitCode::SUCCESS,
-        Err(fault) => told(rt, fault),
+        Err(fault) => told(rt, &ProgramFault::from(*fault)),
     }
 }
 
@@ -550,6 +554,6 @@ pub(crate) fn noted<'a, F>(stream: F, notes: &'a Notes) -> Noted<'a, F> {
 }
 
 /// A standard stream that is waited for where another one made its calls such that they do not.
-pub(crate) fn patient<'a, F>(rt: &'a HostRuntime, stream: F) -> Patient<'a, F> {
-    Patient { stream, rt }
+pub(crate) fn patient<'a, F>(rt: &'a HostRuntime, stream: F) -> RetryWouldBlock<'a, F> {
+    RetryWouldBlock { stream, rt }
 }

@@ -1,37 +1,19 @@
-//! The manifest that a save leaves beside its files.
+//! The manifest that a save puts beside its files.
 
 use crate::advice::new_names;
 use crate::manifests::MANIFEST;
-use crate::output::{tell, tell_kept};
+use crate::output::tell;
 use checked_files::{ManifestText, manifest_of};
 use copy_coverage::Retired;
 use manifest::{DatabaseName, Manifest};
 use page_core::FaultName;
 use saved_files::{FileFault, PutFault, PutStoredFault, put_and_store};
-use std::alloc::AllocError;
-use std::io::{ErrorKind, Read};
+use std::io::Read;
 use std::{fs, io};
 use system_files::{Escaped, Notes, SystemFolder};
 
 /// Where the system gives random bytes.
 const RANDOM: &str = "/dev/urandom";
-
-/// Whether a manifest stands in a folder that a save would replace, which is told then. An empty
-/// file is one that is still to be written.
-pub fn tells_manifest(rt: &HostRuntime, folder: &str) -> Result<bool, AllocError> {
-    let place = format!(in rt.alloc(); "{folder}/{MANIFEST}")?;
-    let why = match fs::metadata(rt, place.as_str()) {
-        Ok(there) if there.is_file() && there.len() == 0 => return Ok(false),
-        Ok(_) => "this may be a manifest, by its name",
-        Err(error) => match error.kind() {
-            ErrorKind::NotFound | ErrorKind::NotADirectory => return Ok(false),
-            ErrorKind::OutOfMemory => return Err(AllocError),
-            _ => "this cannot be read, and may be a manifest",
-        },
-    };
-    tell_kept(rt, place.as_str(), &why);
-    Ok(true)
-}
 
 /// The manifest of what a script left. Each run is a database of its own, whose name is drawn. None
 /// where there is none, which is told.

@@ -50,8 +50,6 @@ pub struct Checks<'a> {
     /// The files that the manifest does not name which counts for them.
     unnamed: Vec<&'a str>,
     choice: ManifestUse<'a>,
-    /// A manifest counts where one stands, and none does.
-    is_bare: bool,
 }
 
 impl<'a> Checks<'a> {
@@ -62,7 +60,6 @@ impl<'a> Checks<'a> {
             notes: CheckNotes::new(),
             unnamed: Vec::new(rt.alloc()),
             choice: names.manifest,
-            is_bare: false,
         };
         let done = match names.manifest {
             ManifestUse::Beside => checks.look_beside(rt, names),
@@ -117,15 +114,6 @@ impl<'a> Checks<'a> {
         }
     }
 
-    /// Tells that no manifest stands beside the files, where one would count.
-    pub fn tell_bare(&self, rt: &impl Eprint) {
-        if self.is_bare {
-            let _ = eprintln!(rt;
-                "imgcopy: no manifest stands beside the files: they are not compared"
-            );
-        }
-    }
-
     /// Tells that the file that was read last is not the one that the manifest names.
     fn tell_other(&self, rt: &impl Eprint, names: &Named<'_>, notes: &Notes, count: u64) {
         let Some(place) = notes.read_last() else {
@@ -177,7 +165,6 @@ impl<'a> Checks<'a> {
             let known = known_file(ManifestUse::Beside, manifest_among(&found, folder), &file);
             self.take(name, &known)?;
         }
-        self.is_bare = found.iter().all(|it| it.manifest.is_none());
         Ok(true)
     }
 

@@ -13,6 +13,7 @@ use crate::output::{Inputs, Limits, have_one_folder, is_one_place, tell, tell_ou
 use crate::output_folder::OutputFolder;
 use crate::reasons::{FIRST_ARCHIVE, Named};
 use crate::untils::restore_until;
+use crate::volume_output::VolumeOutput;
 use crate::{noted, patient, refused_terminal};
 use checked_files::CheckedFiles;
 use media_restore::{RestoreFault, WithLogFault};
@@ -22,16 +23,15 @@ use saved_files::{
 };
 use script_run::{FAULT_STATUS, restore_status};
 use std::io;
-use std::io::IsTerminal;
 use std::process::ExitCode;
 use std::thread::Threads;
 use system_files::{Notes, SystemFiles};
 
-/// The files that a restore writes. Without one for the volume, that goes to standard output;
-/// without one for the log, this is not written. With force they replace files that are kept else.
+/// What a restore writes: the volume, and the log, if a file is named for it. With force they
+/// replace files that are kept else.
 #[derive(Clone, Copy)]
 pub struct Outputs<'a> {
-    pub volume: Option<&'a str>,
+    pub volume: VolumeOutput<'a>,
     pub log: Option<&'a str>,
     pub force: bool,
 }
@@ -65,8 +65,7 @@ impl Ended {
 }
 
 /// Restores a volume from files, and its log if a file for that is named. The log counts up to the
-/// record at an LSN, if one is told. A file that a manifest names has to be that file; that there is
-/// no manifest is told.
+/// record at an LSN, if one is told. A file that a manifest names has to be that file.
 pub fn restore(
     rt: &HostRuntime,
     threads: &(impl Threads + Sync),
@@ -81,7 +80,6 @@ pub fn restore(
     let ended = restore_checked(rt, threads, (names, &notes, &checks), master, outputs);
     if matches!(ended, Ended::Well) {
         checks.tell_unnamed(rt);
-        checks.tell_bare(rt);
     }
     ended
 }
@@ -126,13 +124,18 @@ pub fn restore_from<N: NamedFiles>(
         inputs: Inputs::Named(names),
         force: outputs.force,
     };
+    if outputs.volume.is_barred(rt) {
+        return Ended::refused(refused_terminal(rt));
+    }
     match (outputs.volume, outputs.log) {
-        (None, None) => restore_out(rt, threads, &files, read, from),
-        (Some(path), None) => restore_into(rt, threads, &files, read, from, (path, limits)),
-        (None, Some(log)) => restore_log_into(rt, threads, &files, read, from, (log, limits)),
-        (Some(path), Some(log)) => {
+        (VolumeOutput::File(path), None) => {
+            restore_into(rt, threads, &files, read, from, (path, limits))
+        }
+        (VolumeOutput::File(path), Some(log)) => {
             restore_both_into(rt, threads, &files, read, from, (path, log, limits))
         }
+        (_, None) => restore_out(rt, threads, &files, read, from),
+        (_, Some(log)) => restore_log_into(rt, threads, &files, read, from, (log, limits)),
     }
 }
 
@@ -144,9 +147,6 @@ fn restore_out<N: NamedFiles>(
     read: (&Named<'_>, &Notes, &Checks<'_>),
     from: RestoreNames<'_>,
 ) -> Ended {
-    if rt.stdout().is_terminal() {
-        return Ended::refused(refused_terminal(rt));
-    }
     let output = Notes::new();
     let done = restore_volume(
         files,
@@ -194,9 +194,6 @@ fn restore_log_into<N: NamedFiles>(
     output: (&str, Limits<'_>),
 ) -> Ended {
     let (log, limits) = output;
-    if rt.stdout().is_terminal() {
-        return Ended::refused(refused_terminal(rt));
-    }
     let (output, written) = (Notes::new(), Notes::new());
     let Some(mut folder) = OutputFolder::of(rt, log, limits, &written) else {
         return Ended::refused(ExitCode::from(FAULT_STATUS));

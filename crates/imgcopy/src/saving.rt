@@ -2,31 +2,34 @@
 
 use crate::advice::{tell_stale, tell_unsaved};
 use crate::leftovers::tell_left;
-use crate::manifest_output::{drawn_manifest, put_manifest, tells_manifest};
-use crate::output::{tell, tell_kept};
+use crate::manifest_output::{drawn_manifest, put_manifest};
+use crate::output::tell;
+use crate::save_folder::{has_manifest, may_save};
 use copy_coverage::Retired;
-use copy_vault::{CopyId, MAX_COPIES};
+use manifest::Manifest;
 use page_core::FaultName;
-use saved_files::{SavedName, save_files};
+use saved_files::save_files;
 use std::alloc::AllocError;
-use system_files::{ClaimFault, Kept, Notes, SystemFolder, kept_at};
+use system_files::{ClaimFault, Notes, SystemFolder};
 
-/// The folder of a save. With force files are replaced there that are kept else.
+/// The folder of a save, and whether a manifest is asked for there. With force the folder may be a
+/// database's.
 #[derive(Clone, Copy)]
 pub struct Saving<'a> {
     pub folder: &'a str,
+    pub manifest: bool,
     pub force: bool,
 }
 
 impl Saving<'_> {
-    /// Whether the save may be begun: no other one has the folder, and without force nothing stands
-    /// there that is kept. Else this is told, before a long script is played in vain. A folder that
-    /// cannot be opened is told of by the save.
+    /// Whether the save may be begun: no other one has the folder or the log there, and without
+    /// force it is no database's. Else this is told, before a long script is played in vain. A
+    /// folder that cannot be opened is told of by the save.
     pub fn may_begin(&self, rt: &HostRuntime) -> bool {
         let notes = Notes::new();
         let mut there = SystemFolder::new(rt, rt.alloc(), self.folder, &notes);
         match there.claim_soon() {
-            Ok(()) => self.force || !tells_kept(rt, self.folder),
+            Ok(()) => self.may_save(rt),
             Err(ClaimFault::Unopened(_)) => true,
             Err(fault) => {
                 tell(rt, self.folder, &fault);
@@ -35,91 +38,74 @@ impl Saving<'_> {
         }
     }
 
-    /// Saves what a script left, and their manifest behind them, and says whether all went well. Why
-    /// it did not is told.
+    /// Saves what a script left, and says whether all went well. Why it did not is told. Behind the
+    /// files a manifest is put in place, if one is asked for, or if an older one stands there,
+    /// which names none of them.
     pub fn save(&self, rt: &HostRuntime, retired: &Retired) -> bool {
         let (folder, notes) = (self.folder, Notes::new());
-        let mut there = SystemFolder::new(rt, rt.alloc(), folder, &notes).guarded(self.force);
-        match there.claim_soon() {
-            Ok(()) => {}
-            Err(_) if folder.is_empty() => {
-                tell_no_folder(rt);
-                return false;
-            }
-            Err(fault) => {
-                tell(rt, folder, &fault);
-                return false;
-            }
-        }
-        if !self.force && tells_kept(rt, folder) {
+        // What another one has open is not replaced.
+        let mut there = SystemFolder::new(rt, rt.alloc(), folder, &notes).guarded(true);
+        if !self.claims(rt, &mut there) || !self.may_save(rt) {
             return false;
         }
-        let Some(manifest) = drawn_manifest(rt, retired) else {
-            return false;
+        let manifest = match self.manifest_of(rt, retired) {
+            Some(manifest) => manifest,
+            None => return false,
         };
         if let Err(fault) = save_files(&mut there, rt.alloc(), retired) {
             let _ = rt.eprintln(&fault);
-            tell_unsaved(rt, &there, folder, &fault, retired, &notes);
+            tell_unsaved(rt, folder, &fault, retired, &notes);
             return false;
         }
-        if !put_manifest(rt, &mut there, folder, &notes, retired, &manifest) {
-            return false;
+        if let Some(manifest) = &manifest {
+            if !put_manifest(rt, &mut there, folder, &notes, retired, manifest) {
+                return false;
+            }
         }
         tell_stale(rt, rt.alloc(), folder, retired);
         tell_left(rt, folder);
         true
     }
-}
 
-fn tell_no_folder(rt: &impl Eprint) {
-    let _ = eprintln!(rt; "{} 0", FaultName::WriteFault);
-    let _ = eprintln!(rt; "imgcopy: --save names no folder");
-}
-
-/// Whether something stands in a folder that a save would replace, which is told then.
-fn tells_kept(rt: &HostRuntime, folder: &str) -> bool {
-    let found = match first_kept(rt, folder) {
-        Ok(Some((place, kept))) => {
-            tell_kept(rt, place.as_str(), &kept);
-            Ok(true)
+    /// Claims the folder, or tells why it cannot be.
+    fn claims(&self, rt: &HostRuntime, there: &mut SystemFolder<'_>) -> bool {
+        match there.claim_soon() {
+            Ok(()) => true,
+            Err(_) if self.folder.is_empty() => {
+                let _ = eprintln!(rt; "{} 0", FaultName::WriteFault);
+                let _ = eprintln!(rt; "imgcopy: --save names no folder");
+                false
+            }
+            Err(fault) => {
+                tell(rt, self.folder, &fault);
+                false
+            }
         }
-        Ok(None) => tells_manifest(rt, folder),
-        Err(error) => Err(error),
-    };
+    }
+
+    /// Whether the files may be saved there. Why they may not is told.
+    fn may_save(&self, rt: &HostRuntime) -> bool {
+        heard(rt, may_save(rt, self.folder, self.force)) == Some(true)
+    }
+
+    /// The manifest that is to stand beside the files, if one is. It is made before a file is
+    /// replaced. None where it cannot be made, which is told.
+    fn manifest_of(&self, rt: &HostRuntime, retired: &Retired) -> Option<Option<Manifest>> {
+        if self.manifest || heard(rt, has_manifest(rt, self.folder))? {
+            Some(Some(drawn_manifest(rt, retired)?))
+        } else {
+            Some(None)
+        }
+    }
+}
+
+/// What was found, or none for want of memory, which is told.
+fn heard(rt: &impl Eprint, found: Result<bool, AllocError>) -> Option<bool> {
     match found {
-        Ok(is_kept) => is_kept,
+        Ok(found) => Some(found),
         Err(_) => {
             let _ = eprintln!(rt; "{}", FaultName::OutOfMemory);
-            true
+            None
         }
     }
-}
-
-/// The first file of a folder that a save would replace, where that is kept.
-fn first_kept(rt: &HostRuntime, folder: &str) -> Result<Option<(String, Kept)>, AllocError> {
-    let mut place = String::new(rt.alloc());
-    for file in [SavedName::Log, SavedName::Master] {
-        if let Some(kept) = kept_in(rt, folder, file, &mut place)? {
-            return Ok(Some((place, kept)));
-        }
-    }
-    for id in 1..=MAX_COPIES {
-        if let Some(kept) = kept_in(rt, folder, SavedName::Copy(CopyId(id)), &mut place)? {
-            return Ok(Some((place, kept)));
-        }
-    }
-    Ok(None)
-}
-
-/// Why this file of a folder is not replaced. Its place is written into this text.
-fn kept_in(
-    rt: &HostRuntime,
-    folder: &str,
-    file: SavedName,
-    place: &mut String,
-) -> Result<Option<Kept>, AllocError> {
-    place.clear();
-    write!(place, "{folder}/{file}")?;
-    let name = place.rsplit_once('/').map_or("", |(_, name)| name);
-    Ok(kept_at(rt, place.as_str(), name))
 }

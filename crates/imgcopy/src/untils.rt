@@ -12,14 +12,13 @@ use crate::read_once::ReadOnce;
 use crate::reasons::Named;
 use crate::redone_volume::RedoneUntil;
 use crate::restores::{Ended, Outputs, restore_from};
-use crate::{answered, noted, patient, refused_terminal};
+use crate::{answered, noted, patient};
 use file_view::ViewFault;
 use media_restore::{RestoreFault, UntilFault, redo_until};
 use page_core::Lsn;
 use saved_files::{PutFault, PutStoredFault, UntilFiles, put_and_store};
 use script_run::FAULT_STATUS;
 use std::io;
-use std::io::IsTerminal;
 use std::process::ExitCode;
 use std::thread::Threads;
 use system_files::Notes;
@@ -101,9 +100,6 @@ pub fn audit_until(
 
 /// Rebuilds the volume of the log on standard input, up to the record at an LSN.
 pub fn redo_until_out(rt: &HostRuntime, until: Lsn) -> ExitCode {
-    if rt.stdout().is_terminal() {
-        return refused_terminal(rt);
-    }
     let (input, output) = (Notes::new(), Notes::new());
     let done = redo_until(
         rt.alloc(),

@@ -124,7 +124,9 @@ fn files_are_named(
     let Some(manifest) = found else {
         if !matches!(choice, ManifestUse::Aside) {
             let folder = Escaped(folder);
-            let _ = eprintln!(rt; "imgcopy: {folder}: there is no manifest");
+            let _ = eprintln!(rt;
+                "imgcopy: {folder}: there is no manifest: the files are not compared"
+            );
         }
         return Ok(true);
     };

@@ -3,7 +3,6 @@
 -- `Rattle.imgcopy_engine.specs.page_core.Volume`.
 pub use Rattle.aries_core.specs as aries_core
 pub use Rattle.buffer_pool.specs as buffer_pool
-pub use Rattle.copy_archives.specs as copy_archives
 pub use Rattle.copy_audit.specs as copy_audit
 pub use Rattle.copy_coverage.specs as copy_coverage
 pub use Rattle.copy_vault.specs as copy_vault
@@ -13,14 +12,14 @@ pub use Rattle.engine_rules.specs as engine_rules
 pub use Rattle.engine_run.specs as engine_run
 pub use Rattle.file_devices.specs as file_devices
 pub use Rattle.fuzzy_ckpt.specs as fuzzy_ckpt
-pub use Rattle.image_copies.specs as image_copies
-pub use Rattle.log_front.specs as log_front
+pub use Rattle.log_prefix.specs as log_prefix
 pub use Rattle.log_records.specs as log_records
 pub use Rattle.log_rules.specs as log_rules
 pub use Rattle.log_store.specs as log_store
 pub use Rattle.loser_undo.specs as loser_undo
 pub use Rattle.media_restore.specs as media_restore
 pub use Rattle.page_core.specs as page_core
+pub use Rattle.page_decisions.specs as page_decisions
 pub use Rattle.page_redo.specs as page_redo
 pub use Rattle.page_store.specs as page_store
 pub use Rattle.saved_files.specs as saved_files

@@ -6,14 +6,13 @@ use Rattle.page_core.specs.declared.page.Page.{Page}
 use Rattle.log_records.specs.declared.limits.TheConstants.{MAX_RECORDS}
 use Rattle.log_records.specs.Log.{log_bytes}
 use Rattle.log_rules.specs.Transactions.{owed}
-use Rattle.log_front.specs.Front.{FoundFront, IsFrontOf}
-use Rattle.log_store.specs.WrittenLog.{HoldsLog}
-use Rattle.file_devices.specs.FileLog.{KeepFails, LogOnDisk, ResumeFails, bytes_of}
+use Rattle.log_prefix.specs.Front.{FoundFront, IsFrontOf}
+use Rattle.file_devices.specs.FileLog.{KeepFails, LogOnDisk, ResumeFails, Stores, Syncs}
 use Rattle.file_devices.specs.FileStore.{FormatFails}
 use Rattle.file_devices.specs.declared.calls.FileCall.{FileCall}
 use Rattle.engine_restart.specs.Found.{FindsNone, line_of as line_of_found}
-use Rattle.engine_restart.specs.LogFile.{IsReadWhole, WasReadAndKept}
-use Rattle.engine_restart.specs.Restart.{IsStopped, line_of}
+use Rattle.engine_restart.specs.LogFile.{IsReadWhole, LastsOnFile, WasReadAndKept}
+use Rattle.engine_restart.specs.Restart.{FailsUndo, IsStopped, line_of}
 use Rattle.engine_restart.specs.declared.fault.RestartFault.{RestartFault}
 use Rattle.engine_restart.specs.declared.fault.RestartFault.TheVariants.{LogFault, LogFull}
 use Rattle.engine_restart.specs.declared.log_file.TheConstants.{MAX_FILE_BYTES}
@@ -32,14 +31,16 @@ of_found (log.Found why file) = Found why file
 
 -- a log was found in its file, which has so many bytes, and this is how the file is handed back: the
 -- log could not be stored again as its first bytes; or it was, and what was open could not be taken
--- back. Then the file still begins with the log
+-- back. Then all of the log still lasts there; and where a call failed, the file was to store the
+-- first of undo's records behind it, and to sync them, and was asked for nothing else
 pub data IsHandedBack {D : Type 0} (len : ℕ) (why : RestartFault) (file : LogOnDisk D) : Type 0 where
   not_kept : (bytes : List ℕ) (found : FoundFront) (read : LogOnDisk D)
       → IsReadWhole len bytes read.calls → IsFrontOf bytes found → why ≡ LogFault
       → KeepFails read (log_bytes found.log) file → IsHandedBack len why file
   not_undone : (bytes : List ℕ) (found : FoundFront) (kept : LogOnDisk D)
       → WasReadAndKept len bytes (log_bytes found.log) kept.calls → IsFrontOf bytes found
-      → IsStopped (λ it. it.failures) kept why file → HoldsLog bytes_of found.log file
+      → IsStopped (λ it. it.failures) kept why file → LastsOnFile found.log file
+      → (why ≡ LogFault → FailsUndo Stores Syncs found.log kept file)
       → (why ≡ LogFull → MAX_RECORDS < length found.log.records + owed found.log.records)
       → IsHandedBack len why file
 

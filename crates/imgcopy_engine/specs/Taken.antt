@@ -1,7 +1,7 @@
 -- The copies that are taken up by a database that is opened again.
 use Rattle.std.specs.Prelude.{◌≡◌, ◌++◌, ◌∷◌, [], List}
 use Rattle.log_records.specs.Log.{Log}
-use Rattle.image_copies.specs.Copy.{CopyView}
+use Rattle.copy_vault.specs.Copy.{CopyView}
 use Rattle.copy_vault.specs.Added.{with_copy}
 use Rattle.copy_vault.specs.Vault.{CopyState}
 use Rattle.copy_vault.specs.declared.add_fault.AddFault.TheVariants as vault

@@ -2,7 +2,7 @@
 
 ghost use Rattle.std.specs.Prelude.{◌≡◌, IfErr, IfOk};
 ghost use Rattle.buffer_pool.specs.Pool.{IsFrameCount};
-ghost use Rattle.log_front.specs.Front.{IsFrontOf};
+ghost use Rattle.log_prefix.specs.Front.{IsFrontOf};
 ghost use Rattle.log_records.specs.Log.{log_bytes};
 ghost use Rattle.engine_restart.specs.LogFile.{GoesOnFromFile, LastsOnFile, WasReadAndKept};
 ghost use Rattle.engine_rules.specs.EngineState.{log_of};
@@ -16,7 +16,7 @@ use engine_restart::{
     FoundFault, FoundLog, FoundLogFault, RestartFault, found_log, restart, store_of,
 };
 use file_devices::{FailedFile, FileLog, FileStore};
-use log_front::Cut;
+use log_prefix::Cut;
 use page_core::FaultName;
 use std::alloc::{AllocError, Global};
 use std::fmt;
@@ -46,8 +46,8 @@ pub enum ReopenFault {
     /// The file of the log has no header of a log. This hands it back.
     Found(FoundFault, FileLog),
     /// What was open in the log could not be taken back, or a call of the log's file failed before
-    /// that, once the log was found. This hands the file back. It still begins with the log, but for
-    /// a failed call before undo.
+    /// that, once the log was found. This hands the file back. All of the log still lasts there, but
+    /// for a failed call before undo.
     Restart(RestartFault, FileLog),
 }
 

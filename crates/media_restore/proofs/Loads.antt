@@ -14,16 +14,16 @@ use Rattle.log_records.specs.Coverage.{resume}
 use Rattle.log_records.specs.Image.{image, redo_all}
 use Rattle.log_records.specs.Log.{IsLog, Log, lsn_of, page_count}
 use Rattle.log_records.proofs.Public.{page_count_at-not_more}
-use Rattle.image_copies.proofs.Public.{contents_numbered}
+use Rattle.copy_vault.proofs.Public.{contents_numbered}
 use Rattle.log_records.specs.Record.{own_lsn}
 use Rattle.log_records.specs.declared.record.Record.TheVariants.{EndChkpt}
 use Rattle.log_rules.specs.Checkpoint.{IsCompleteCheckpoint}
 use Rattle.log_rules.specs.Transactions.{owed}
 use Rattle.log_rules.proofs.Public.{linked-take}
 use Rattle.log_store.specs.declared.master.Master.{Master}
-use Rattle.image_copies.specs.Chain.{IsChain, content, contents, last_redo}
+use Rattle.copy_vault.specs.Chain.{IsChain, content, contents, last_redo}
 use Rattle.copy_vault.specs.ChainOf.{IsChainOf}
-use Rattle.image_copies.specs.Copy.{CopyView}
+use Rattle.copy_vault.specs.Copy.{CopyView}
 use Rattle.copy_vault.specs.Vault.{state_of}
 use Rattle.copy_coverage.specs.Kept.{IsKeptOf}
 use Rattle.copy_coverage.specs.Retired.{NamesCheckpoint, IsRetired, RetiredView}

@@ -18,12 +18,12 @@ use Rattle.log_rules.specs.Table.{TxnEntry}
 use Rattle.log_store.specs.declared.fault.LogReadFault.{LogReadFault}
 use Rattle.log_store.specs.declared.fault.LogReadFault.TheVariants as log
 use Rattle.log_store.specs.declared.master.Master.{Master}
-use Rattle.copy_archives.specs.declared.chain_read_fault.ChainReadFault.{ChainReadFault}
-use Rattle.copy_archives.specs.declared.chain_read_fault.ChainReadFault.TheVariants as chain
-use Rattle.image_copies.specs.Chain.{content, contents, last_redo}
-use Rattle.copy_archives.specs.ChainReading.{IsChainRead}
-use Rattle.image_copies.specs.Copy.{CopyView}
-use Rattle.image_copies.proofs.Public.{contents_numbered}
+use Rattle.copy_vault.specs.declared.chain_read_fault.ChainReadFault.{ChainReadFault}
+use Rattle.copy_vault.specs.declared.chain_read_fault.ChainReadFault.TheVariants as chain
+use Rattle.copy_vault.specs.Chain.{content, contents, last_redo}
+use Rattle.copy_vault.specs.ChainReading.{IsChainRead}
+use Rattle.copy_vault.specs.Copy.{CopyView}
+use Rattle.copy_vault.proofs.Public.{contents_numbered}
 use Rattle.loser_undo.specs.Recovery.{HasCommitted, Recovery, appended}
 use Rattle.loser_undo.proofs.Public.{undone_committed, undone_count, undone_whole}
 use Rattle.log_records.proofs.Public.{last_count-counts_of}

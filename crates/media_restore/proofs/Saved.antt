@@ -18,18 +18,19 @@ use Rattle.log_rules.specs.Linked.{IsLinked}
 use Rattle.log_rules.proofs.Public.{linked-take}
 use Rattle.log_store.specs.declared.master.Master.{Master}
 use Rattle.log_store.specs.Master.{master_bytes}
-use Rattle.image_copies.specs.declared.copy_id.CopyKind.{CopyKind}
-use Rattle.image_copies.specs.declared.copy_id.CopyKind.TheVariants.{Full, Inc}
-use Rattle.copy_archives.specs.Archive.{IsArchived, IsKindOf, archive_bytes, header_of}
-use Rattle.image_copies.specs.Chain.{FitFrom, Follow, IsChain, content, last_redo}
+use Rattle.copy_vault.specs.declared.copy_id.CopyKind.{CopyKind}
+use Rattle.copy_vault.specs.declared.copy_id.CopyKind.TheVariants.{Full, Inc}
+use Rattle.copy_vault.specs.Archive.{IsArchived, IsKindOf, archive_bytes, header_of}
+use Rattle.copy_vault.specs.Chain.{FitFrom, Follow, IsChain, content, last_redo}
 use Rattle.copy_vault.specs.ChainOf.{IsChainOf}
-use Rattle.copy_archives.specs.ChainRead.{AreBelow}
-use Rattle.copy_archives.specs.ChainReading.{AreWithinLog, IsRightChain, SpellCopies}
-use Rattle.image_copies.specs.Copy.{CopyView, IsComplete, PageDecision, decision_at, kept, taken, taken_count}
-use Rattle.image_copies.specs.Copy.{taken_pages, undecided}
+use Rattle.copy_vault.specs.ChainRead.{AreBelow}
+use Rattle.copy_vault.specs.ChainReading.{AreWithinLog, IsRightChain, SpellCopies}
+use Rattle.page_decisions.specs.Decisions.{PageDecision, decision_at, kept, taken, taken_count}
+use Rattle.copy_vault.specs.Copy.{CopyView, IsComplete}
+use Rattle.page_decisions.specs.Decisions.{taken_pages, undecided}
 use Rattle.copy_vault.specs.Vault.{CopyState, HasParent, complete, dropped, state_of}
-use Rattle.image_copies.proofs.Public.{some_members}
-use Rattle.image_copies.proofs.Public.{count_within}
+use Rattle.copy_vault.proofs.Public.{some_members}
+use Rattle.page_decisions.proofs.Public.{count_within}
 use Rattle.copy_coverage.specs.Copied.{AreRestorable, IsCovered, StandsOn}
 use Rattle.copy_coverage.specs.Kept.{IsKeptOf}
 use Rattle.copy_coverage.proofs.Public.{covered_of_members}

@@ -13,10 +13,10 @@ use Rattle.log_store.specs.Fault as log_fault
 use Rattle.log_store.specs.Master.{SpellsMaster, master_bytes}
 use Rattle.log_store.proofs.Public.{none_in_log}
 use Rattle.log_store.proofs.Public.{same_master}
-use Rattle.copy_archives.specs.declared.chain_read_fault.ChainReadFault.{ChainReadFault}
-use Rattle.copy_archives.specs.declared.chain_read_fault.ChainReadFault.TheVariants as chain
-use Rattle.copy_archives.specs.ChainReading.{AreNoChain, IsFromOutside, archives_of}
-use Rattle.image_copies.specs.Copy.{CopyView}
+use Rattle.copy_vault.specs.declared.chain_read_fault.ChainReadFault.{ChainReadFault}
+use Rattle.copy_vault.specs.declared.chain_read_fault.ChainReadFault.TheVariants as chain
+use Rattle.copy_vault.specs.ChainReading.{AreNoChain, IsFromOutside, archives_of}
+use Rattle.copy_vault.specs.Copy.{CopyView}
 use Rattle.copy_audit.proofs.Public.{from_outside, same_log_of}
 use Rattle.media_restore.specs.declared.files_fault.RestoreFault.{RestoreFault}
 use Rattle.media_restore.specs.declared.files_fault.RestoreFault.TheVariants.{BadChain, BadHeader, OutOfMemory}

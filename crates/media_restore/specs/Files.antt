@@ -15,8 +15,8 @@ use Rattle.log_store.specs.declared.fault.LogReadFault.{LogReadFault}
 use Rattle.log_store.specs.declared.master.Master.{Master}
 use Rattle.log_store.specs.Fault.{Refuses}
 use Rattle.log_store.specs.Master.{SpellsMaster}
-use Rattle.image_copies.specs.Chain.{IsChain, contents, last_redo}
-use Rattle.image_copies.specs.Copy.{CopyView}
+use Rattle.copy_vault.specs.Chain.{IsChain, contents, last_redo}
+use Rattle.copy_vault.specs.Copy.{CopyView}
 use Rattle.loser_undo.specs.Recovery.{HasCommitted, appended}
 use Rattle.loser_undo.specs.Undo.{after_undo}
 use Rattle.loser_undo.specs.UndoSink.{MayBeUndone}

@@ -1,8 +1,8 @@
 -- Archives that are read side by side, to a chain of copies.
 use Rattle.std.specs.Prelude.{ℕ, ◌≡◌, List, Option}
 use Rattle.log_records.specs.Log.{Log, counts_of}
-use Rattle.copy_archives.specs.declared.chain_read_fault.ChainReadFault.{ChainReadFault}
-use Rattle.copy_archives.specs.ChainReading.{AreNoChain}
+use Rattle.copy_vault.specs.declared.chain_read_fault.ChainReadFault.{ChainReadFault}
+use Rattle.copy_vault.specs.ChainReading.{AreNoChain}
 use Rattle.media_restore.specs.declared.files_fault.RestoreFault.{RestoreFault}
 use Rattle.media_restore.specs.FilesFault.{of_chain}
 pub use Rattle.copy_audit.specs.Audit.{AreOfArchives, end_of}

@@ -4,8 +4,8 @@ use Rattle.page_core.specs.FaultName.{fault_line, fault_line_with}
 use Rattle.page_core.specs.declared.fault_name.FaultName.TheVariants as name
 use Rattle.log_store.specs.declared.fault.LogReadFault.{LogReadFault}
 use Rattle.log_store.specs.declared.fault.LogReadFault.TheVariants as log
-use Rattle.copy_archives.specs.declared.chain_read_fault.ChainReadFault.{ChainReadFault}
-use Rattle.copy_archives.specs.declared.chain_read_fault.ChainReadFault.TheVariants as chain
+use Rattle.copy_vault.specs.declared.chain_read_fault.ChainReadFault.{ChainReadFault}
+use Rattle.copy_vault.specs.declared.chain_read_fault.ChainReadFault.TheVariants as chain
 use Rattle.media_restore.specs.declared.files_fault.RestoreFault.{RestoreFault}
 use Rattle.media_restore.specs.declared.files_fault.RestoreFault.TheVariants.{OutOfMemory, LogFull}
 use Rattle.media_restore.specs.declared.files_fault.RestoreFault.TheVariants.{WriteFault, BadHeader}

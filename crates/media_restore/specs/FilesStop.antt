@@ -8,8 +8,8 @@ use Rattle.log_store.specs.declared.master.Master.{Master}
 use Rattle.log_store.specs.declared.master.TheConstants.{MASTER_BYTES}
 use Rattle.log_store.specs.Fault.{GaveNoFault}
 use Rattle.log_store.specs.Master.{SpellsMaster}
-use Rattle.copy_archives.specs.declared.chain_read_fault.ChainReadFault.{ChainReadFault}
-use Rattle.copy_archives.specs.ChainReading.{AreNoChain, HaveGivenAll}
+use Rattle.copy_vault.specs.declared.chain_read_fault.ChainReadFault.{ChainReadFault}
+use Rattle.copy_vault.specs.ChainReading.{AreNoChain, HaveGivenAll}
 use Rattle.media_restore.specs.declared.files_fault.RestoreFault.{RestoreFault}
 use Rattle.media_restore.specs.declared.files_fault.RestoreFault.TheVariants.{BadChain, BadHeader}
 use Rattle.media_restore.specs.declared.files_fault.RestoreFault.TheVariants.{LogFull, OutOfMemory}

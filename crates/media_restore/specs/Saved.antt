@@ -3,10 +3,10 @@ use Rattle.std.specs.Prelude.{ℕ, ◌≡◌, List, map, Some}
 use Rattle.log_records.specs.Log.{Log, log_bytes}
 use Rattle.log_store.specs.declared.master.Master.{Master}
 use Rattle.log_store.specs.Master.{master_bytes}
-use Rattle.copy_archives.specs.Archive.{archive_bytes}
-use Rattle.image_copies.specs.Chain.{IsChain}
+use Rattle.copy_vault.specs.Archive.{archive_bytes}
+use Rattle.copy_vault.specs.Chain.{IsChain}
 use Rattle.copy_vault.specs.ChainOf.{IsChainOf}
-use Rattle.image_copies.specs.Copy.{CopyView}
+use Rattle.copy_vault.specs.Copy.{CopyView}
 use Rattle.copy_coverage.specs.Kept.{IsKeptOf}
 use Rattle.copy_coverage.specs.Retired.{IsRetired, RetiredView}
 use Rattle.media_restore.specs.Files.{Files}

@@ -3,8 +3,8 @@
 ghost use Rattle.std.specs.Prelude.{List};
 ghost use Rattle.page_core.specs.declared.page.Page.{Page};
 ghost use Rattle.log_records.specs.Log.{Log};
-ghost use Rattle.image_copies.specs.Chain.{IsChain};
-ghost use Rattle.image_copies.specs.Copy.{CopyView};
+ghost use Rattle.copy_vault.specs.Chain.{IsChain};
+ghost use Rattle.copy_vault.specs.Copy.{CopyView};
 ghost use Rattle.copy_audit.specs.Audit.{IsAudited};
 ghost use Rattle.media_restore.specs.Files.{AreCovering, AreSound, Files, IsRestoredFrom};
 

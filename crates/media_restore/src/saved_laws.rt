@@ -4,7 +4,7 @@ ghost use Rattle.std.specs.Prelude.{◌≡◌, ◌⊎◌, List};
 ghost use Rattle.page_core.specs.declared.page.Page.{Page};
 ghost use Rattle.log_records.specs.Log.{Log};
 ghost use Rattle.log_store.specs.declared.master.Master.{Master};
-ghost use Rattle.image_copies.specs.Copy.{CopyView};
+ghost use Rattle.copy_vault.specs.Copy.{CopyView};
 ghost use Rattle.media_restore.specs.declared.files_fault.RestoreFault.{RestoreFault};
 ghost use Rattle.media_restore.specs.declared.files_fault.RestoreFault.TheVariants as restore_fault;
 ghost use Rattle.media_restore.specs.Files.{AreCovering, AreSound, HasParts, IsRestoredFrom};

@@ -18,11 +18,11 @@ use Rattle.log_rules.specs.Transactions.{begun, is_last, records_of, txn_of}
 use Rattle.log_rules.proofs.Public.{filter_push_in}
 use Rattle.log_rules.specs.Linked.{IsLinked}
 use Rattle.log_store.specs.WrittenLog.{AreForced, IsWritten, WrittenLog, first_records}
-use Rattle.log_front.specs.Front.{IsLongestFront}
+use Rattle.log_prefix.specs.Front.{IsLongestFront}
 use Rattle.file_devices.specs.FileLog.{IsTrusted, LogOnDisk, bytes_of, synced_of}
 use Rattle.file_devices.specs.TrackedDisk.{Begins, BeginsEach}
-use Rattle.image_copies.specs.Chain.{content}
-use Rattle.image_copies.specs.Copy.{CopyView}
+use Rattle.copy_vault.specs.Chain.{content}
+use Rattle.copy_vault.specs.Copy.{CopyView}
 use Rattle.copy_vault.specs.Vault.{complete, state_of}
 use Rattle.copy_coverage.specs.Copied.{AreRestorable, Restores}
 use Rattle.copy_coverage.specs.Kept.{IsKeptOf}
@@ -208,7 +208,7 @@ module _ {D : Type 0} (may_leave : D → List ℕ → Type 0) (is_clean : D → 
             ∙ ap (first_records count) same;
       }
 
-  -- the same, where the log and the device are those of an engine
+  -- what is read has all that was forced, where the log and the device are those of an engine
   pub engine_has_forced : (device seen : LogOnDisk D) (s : EngineState) (front : Log) → it.log ≡ log_of s
       → it.forced_end ≡ s.forced_end → it.device ≡ device → seen ≡ it.device → IsWritten bytes_of it
       → it.forced_end ≤ it.device.end → IsLinked s.log

@@ -5,7 +5,7 @@ use Rattle.log_records.specs.Log.{IsPageCount, Log, lsn_of, with_next}
 use Rattle.log_records.specs.declared.record.Record.{Record}
 use Rattle.log_rules.specs.Transactions.{is_open}
 use Rattle.log_store.specs.WrittenLog.{first_records}
-use Rattle.log_front.specs.Front.{IsLongestFront}
+use Rattle.log_prefix.specs.Front.{IsLongestFront}
 use Rattle.file_devices.specs.FileLog.{IsTrusted, LogOnDisk}
 use Rattle.engine_calls.specs.EventFits.{EventFits}
 use Rattle.engine_rules.specs.AnsweredCommits.{AnsweredCommit, StandsIn}

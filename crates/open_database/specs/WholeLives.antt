@@ -1,11 +1,11 @@
 -- The whole life of an open database, from its opening to its end.
 use Rattle.std.specs.Prelude.{ℕ, Bool, List, Option}
 use Rattle.engine_rules.specs.EngineState.{EngineState}
-use Rattle.open_database.specs.FirstLine.{first_line}
-use Rattle.open_database.specs.Opened.{Begins}
-use Rattle.open_database.specs.Session.{LivesByAllLines, LivesByLines}
+use Rattle.database_opening.specs.FirstLine.{first_line}
+use Rattle.database_opening.specs.Opened.{Begins}
+use Rattle.database_session.specs.Session.{LivesByAllLines, LivesByLines}
 use Rattle.saved_files.specs.Folder.{Entries}
-use Rattle.open_database.specs.declared.first_line.FirstLine.{FirstLine}
+use Rattle.database_opening.specs.declared.first_line.FirstLine.{FirstLine}
 
 -- a database was begun in a folder where this stood, as a new one of as many pages as were told, or
 -- from the file of its log and from those of its copies, and only if that log lacks nothing, unless

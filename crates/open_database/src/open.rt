@@ -1,76 +1,40 @@
 //! Opens a database in a folder, and answers the lines of standard input.
 
-ghost use Rattle.std.specs.Prelude.{ℕ, ◌≡◌, ◌≢◌, ◌≤◌, ◌⊎◌, false, IfErr, IfOk, IfSome, List, None};
+ghost use Rattle.std.specs.Prelude.{ℕ, ◌≡◌, ◌≢◌, ◌⊎◌, false, IfErr, IfSome, List, None};
 ghost use Rattle.std.specs.Prelude.{OnErr, OnOk, Option, Some, true};
-ghost use Rattle.std.specs.List.Sorted.{IsNonDecreasing};
 ghost use Rattle.buffer_pool.specs.Pool.{IsFrameCount};
 ghost use Rattle.log_records.specs.Log.{IsPageCount};
-ghost use Rattle.saved_files.specs.Folder.{Changes, IsSame};
 ghost use Rattle.std.specs.Io.KnownBytes.{Appends};
-ghost use Rattle.open_database.specs.Calls.{Lives};
-ghost use Rattle.open_database.specs.Closed.{IsNoted, IsWithoutNote};
-ghost use Rattle.open_database.specs.DatabaseFolder.{HasNoOtherVolume, OpensLog};
-ghost use Rattle.open_database.specs.FirstLine.{first_line};
-ghost use Rattle.open_database.specs.Evidence.{log_line};
-ghost use Rattle.open_database.specs.Found.{IsFoundIn, IsInventoryOf, SpellsManifest};
-ghost use Rattle.open_database.specs.MadeFiles.{HasFile, is_master};
-ghost use Rattle.open_database.specs.MovedAside.{KeepsOrPutsAside};
-ghost use Rattle.open_database.specs.Opened.{Begins, BeginsAnew, HandsOn, HasNoWidow, len_of};
-ghost use Rattle.open_database.specs.Refused.{IsRefusal};
-ghost use Rattle.open_database.specs.Session.{LeavesLine, LivesByAllLines, LivesByLines};
-ghost use Rattle.open_database.specs.Session.{ServesAllLines, ServesLines};
-ghost use Rattle.open_database.specs.Standing.{KeepsFiles};
+ghost use Rattle.database_session.specs.Calls.{Lives};
+ghost use Rattle.database_session.specs.Closing.{IsNoted};
+ghost use Rattle.database_opening.specs.FirstLine.{first_line};
+ghost use Rattle.database_files.specs.DatabaseFolder.{HasFile};
+ghost use Rattle.database_session.specs.MadeFiles.{is_master};
+ghost use Rattle.session_lines.specs.Said.{LeavesLine};
+ghost use Rattle.database_session.specs.Session.{LivesByAllLines, LivesByLines};
+ghost use Rattle.database_session.specs.Session.{ServesAllLines, ServesLines};
 ghost use Rattle.open_database.specs.WholeLives.{LivedByAllLines, LivedByLines};
 ghost use Rattle.open_database.specs.declared.open.OpenEnd.TheVariants.{Failed};
 
-use crate::begin::begin;
-use crate::database_folder::DatabaseFolder;
-use crate::fault::OpenFault;
-use crate::first_line::FirstLine;
-use crate::found_manifest::{log_line, name_for, read_manifest};
-use crate::inventory::Inventory;
-use crate::kept_manifest::KeptManifest;
-use crate::line_reader::LineReader;
-use crate::log_file::{LogFile, is_headless, of_log};
-use crate::names::{MANIFEST, MASTER};
 use crate::opened_session::{OpenedSession, session_in};
-use crate::place::Place;
 use crate::prompt::Prompted;
-use crate::restarted::{Reopened, reopen};
-use crate::session::{ServeFault, Session, TellsWhy};
-use crate::streams::{StreamNotes, Streams};
-use crate::system_database::{SystemDatabase, output};
-use crate::told::Teller;
-use crate::volume_file::check_volume;
-use aries_core::Setup;
+use database_files::{DatabaseFolder, Diagnostics, KeptManifest, MASTER, Place};
+use database_opening::{FirstLine, OpenCall, begin};
+use database_session::{OpenDatabase, StreamNotes, Streams, TellsWhy, tell_ended};
 use fuzzy_ckpt::Point;
-use log_records::{HEADER_BYTES, MAX_RECORDS};
+use log_records::MAX_RECORDS;
 use log_store::LogDevice;
-use manifest::Manifest;
 use page_core::write_out;
 use page_store::PageStore;
 use saved_files::Folder;
-use std::alloc::{AllocError, Global};
+use session_lines::{LineReader, ServeFault};
+use sqlite_disk::Start;
+use std::alloc::Global;
 use std::fs::File;
 use std::io::{IsTerminal, Read, Write};
 use std::{fs, io};
-use system_files::{Noted, Notes, Patient};
-
-/// Which database is to be opened.
-#[derive(Clone, Copy)]
-pub struct OpenCall<'a> {
-    /// The folder, which has to be there.
-    pub folder: &'a str,
-    /// How many pages a new database has, 1 to 65,536. One that is there has to have as many, if a
-    /// count is told.
-    pub pages: Option<u32>,
-    /// How many pages may be in memory at a time, 1 to 65,536.
-    pub frames: u32,
-    /// What is left of a log that lacks records which were forced is to be opened.
-    pub salvage: bool,
-    /// A line that is refused is no success.
-    pub strict: bool,
-}
+use system_database::{SystemDatabase, output};
+use system_files::{Noted, Notes, RetryWouldBlock};
 
 /// How a database was open.
 #[derive(Clone, Copy, Debug, PartialEq, Eq)]
@@ -86,8 +50,8 @@ pub enum OpenEnd {
 
 /// Opens the database in a folder, or makes a new one there, and answers the lines of standard
 /// input to its end. The folder and the log are this call's alone until then. Then each dirty page
-/// is written, and where the log ends is noted.
-pub fn open_folder(rt: &HostRuntime, call: &OpenCall<'_>) -> OpenEnd
+/// is written, and where the log ends is noted. What the log's file had is supposed by `start`.
+pub fn open_folder<S: Start>(rt: &HostRuntime, call: &OpenCall<'_>, start: S) -> OpenEnd
     requires pages { IfSome call.now.pages IsPageCount }
     requires frames { IsFrameCount call.now.frames }
     // Of the system's folder, input and output nothing is known.
@@ -95,13 +59,13 @@ pub fn open_folder(rt: &HostRuntime, call: &OpenCall<'_>) -> OpenEnd
         × LivedByAllLines None None call.now.salvage call.now.pages call.now.frames None written }
 {
     // Where a standard stream is closed, a file of the database must not get its number.
-    let _held = held(rt);
+    let _reserved = reserve_standard_streams(rt);
     let (notes, store_notes) = (Notes::new(), Notes::new());
     let (input_notes, output_notes) = (Notes::new(), Notes::new());
-    let teller = Teller::new(rt, call.folder);
-    let folder = SystemDatabase::new(rt, call.folder, (&notes, &store_notes));
+    let diagnostics = Diagnostics::new(rt, call.folder);
+    let folder = SystemDatabase::new(rt, call.folder, (&notes, &store_notes), Some(start));
     let input = Prompted {
-        stream: Patient {
+        stream: RetryWouldBlock {
             stream: Noted {
                 file: rt.stdin(),
                 notes: &input_notes,
@@ -119,10 +83,11 @@ pub fn open_folder(rt: &HostRuntime, call: &OpenCall<'_>) -> OpenEnd
             output: &output_notes,
         },
     };
-    lived_on(&teller, folder, (&notes, &store_notes), call, streams)
+    open_and_serve_streams(&diagnostics, folder, (&notes, &store_notes), call, streams)
 }
 
-/// The same in any folder, with any input and output. Why it failed is not told.
+/// Opens the database in any folder, or makes a new one there, answers all lines of this input, and
+/// closes it. Nothing is told on standard error.
 pub fn open_in<F: DatabaseFolder + Drop, R: Read, W: Write>(
     alloc: Global,
     folder: F,
@@ -146,8 +111,8 @@ pub fn open_in<F: DatabaseFolder + Drop, R: Read, W: Write>(
         input: &notes,
         output: &notes,
     };
-    lived(
-        &Teller::silent(alloc),
+    open_and_serve(
+        &Diagnostics::silent(alloc),
         folder,
         (&notes, &notes),
         call,
@@ -157,9 +122,10 @@ pub fn open_in<F: DatabaseFolder + Drop, R: Read, W: Write>(
     )
 }
 
-/// Opens the database in a folder, answers all lines of these streams, and closes it.
-fn lived_on<'a, F: DatabaseFolder + Drop, R: Read + Drop, W: Write + Drop>(
-    teller: &Teller<'a>,
+/// Opens the database in a folder, answers all lines of these streams, and closes it. The streams
+/// are dropped then.
+fn open_and_serve_streams<'a, F: DatabaseFolder + Drop, R: Read + Drop, W: Write + Drop>(
+    diagnostics: &Diagnostics<'a>,
     folder: F,
     notes: (&'a Notes, &'a Notes),
     call: &OpenCall<'_>,
@@ -176,8 +142,8 @@ fn lived_on<'a, F: DatabaseFolder + Drop, R: Read + Drop, W: Write + Drop>(
         mut output,
         notes: stream_notes,
     } = streams;
-    lived(
-        teller,
+    open_and_serve(
+        diagnostics,
         folder,
         notes,
         call,
@@ -187,9 +153,9 @@ fn lived_on<'a, F: DatabaseFolder + Drop, R: Read + Drop, W: Write + Drop>(
     )
 }
 
-/// The same of streams that are lent.
-fn lived<'a, F: DatabaseFolder + Drop, R: Read, W: Write>(
-    teller: &Teller<'a>,
+/// Opens the database in a folder, answers all lines of the input, and closes it.
+fn open_and_serve<'a, F: DatabaseFolder + Drop, R: Read, W: Write>(
+    diagnostics: &Diagnostics<'a>,
     folder: F,
     notes: (&'a Notes, &'a Notes),
     call: &OpenCall<'_>,
@@ -207,7 +173,7 @@ fn lived<'a, F: DatabaseFolder + Drop, R: Read, W: Write>(
         call.now.salvage call.now.pages call.now.frames
         (W.contents output.old) (W.contents output.new) }
 {
-    match session_in(teller, folder, notes, call) {
+    match session_in(diagnostics, folder, notes, call) {
         Ok(
             OpenedSession {
                 mut session,
@@ -216,7 +182,7 @@ fn lived<'a, F: DatabaseFolder + Drop, R: Read, W: Write>(
                 point,
             },
         ) => {
-            live(
+            serve_and_close(
                 &mut session,
                 &mut kept,
                 (first, point),
@@ -224,17 +190,18 @@ fn lived<'a, F: DatabaseFolder + Drop, R: Read, W: Write>(
                 output,
                 streams,
             );
-            end_of(&session, call)
+            outcome(&session, call)
         }
         Err(fault) => {
-            teller.tell_fault(&fault, notes.0);
+            diagnostics.tell_fault(&fault, notes.0);
             OpenEnd::Failed
         }
     }
 }
 
-/// Files that stand for the standard streams where these are closed.
-pub(crate) fn held(rt: &HostRuntime) -> [io::Result<File>; 3] {
+/// Opens a file for each standard stream: where one is closed, this has its number, and no file of
+/// a database gets it.
+pub fn reserve_standard_streams(rt: &HostRuntime) -> [io::Result<File>; 3] {
     [
         fs::open(rt, "/dev/null"),
         fs::open(rt, "/dev/null"),
@@ -242,171 +209,9 @@ pub(crate) fn held(rt: &HostRuntime) -> [io::Result<File>; 3] {
     ]
 }
 
-/// Claims the folder and opens the database in it.
-pub(crate) fn opened<F: DatabaseFolder>(
-    teller: &Teller<'_>,
-    folder: &mut F,
-    call: &OpenCall<'_>,
-) -> Result<Reopened<F::Volume, F::LogDisk>, OpenFault>
-    requires pages { IfSome call.now.pages IsPageCount }
-    requires frames { IsFrameCount call.now.frames }
-    ensures begins { IfOk result (λ it. (log : Option ℕ) × (ids : List ℕ)
-        × Begins (F.entries folder.old) call.now.salvage log ids call.now.pages call.now.frames
-        it.first it.engine.state) }
-    ensures handed { IfOk result (λ it. HandsOn (F.entries folder.old) call.now.salvage it.first
-        it.engine.state it.unread.items it.point it.is_master_wrong) }
-    ensures claimed { IfOk result (λ _. F.is_claimed folder.new) }
-    // However it ends, each file is left as it was, but for the log, the volume, the note of a
-    // closing and what is unfinished, unless what is left of a log is to be opened.
-    ensures kept { call.now.salvage ≡ false
-        → Changes KeepsFiles (F.entries folder.old) (F.entries folder.new) }
-    // What is left of a log is to be opened: a file that knows of more may get another name.
-    ensures stays { Changes KeepsOrPutsAside (F.entries folder.old) (F.entries folder.new) }
-    // The note of the last closing says nothing of what comes now.
-    ensures gone { OnOk result (IsWithoutNote (F.entries folder.new)) }
-    // The folder was only looked at.
-    ensures refused { IfErr result (λ fault. IsRefusal fault
-        → Changes IsSame (F.entries folder.old) (F.entries folder.new)) }
-{
-    if let Some(most) = folder.low_limit()? {
-        return Err(OpenFault::SmallFiles(most));
-    }
-    folder.claim_or_wait()?;
-    let there = Inventory::of(teller.alloc, folder)?;
-    let log = folder.open_log(true)?;
-    open_from(teller, folder, call, log, &there)
-}
-
-/// Opens the database whose log has this file, or makes a new one where that never had a header.
-fn open_from<F: DatabaseFolder>(
-    teller: &Teller<'_>,
-    folder: &mut F,
-    call: &OpenCall<'_>,
-    log: Option<LogFile<F::Log>>,
-    there: &Inventory,
-) -> Result<Reopened<F::Volume, F::LogDisk>, OpenFault>
-    requires pages { IfSome call.now.pages IsPageCount }
-    requires frames { IsFrameCount call.now.frames }
-    requires claimed { F.is_claimed folder.old }
-    requires there { OpensLog (F.entries folder.old) F.held log }
-    requires inventory { IsInventoryOf (F.entries folder.old) there.now }
-    requires rise { IsNonDecreasing there.now.copies.items }
-    ensures begins { IfOk result (λ it. Begins (F.entries folder.old) call.now.salvage
-        (len_of log) there.now.copies.items call.now.pages call.now.frames it.first
-        it.engine.state) }
-    ensures kept { call.now.salvage ≡ false
-        → Changes KeepsFiles (F.entries folder.old) (F.entries folder.new) }
-    ensures stays { Changes KeepsOrPutsAside (F.entries folder.old) (F.entries folder.new) }
-    ensures gone { OnOk result (IsWithoutNote (F.entries folder.new)) }
-    ensures handed { IfOk result (λ it. HandsOn (F.entries folder.old) call.now.salvage it.first
-        it.engine.state it.unread.items it.point it.is_master_wrong) }
-    ensures refused { IfErr result (λ fault. IsRefusal fault
-        → Changes IsSame (F.entries folder.old) (F.entries folder.new)) }
-    ensures claimed { F.is_claimed folder.new }
-{
-    let Some(log) = log else {
-        return begun(teller, folder, call, None, there);
-    };
-    match is_headless::<F>(&log) {
-        Ok(true) => begun(teller, folder, call, Some(log.file), there),
-        Ok(false) => reopen(teller, folder, call, log, there),
-        Err(error) => Err(of_log(error)),
-    }
-}
-
-/// Makes a new database in a folder that is empty, or in which one was not made to its end.
-fn begun<F: DatabaseFolder>(
-    teller: &Teller<'_>,
-    folder: &mut F,
-    call: &OpenCall<'_>,
-    log: Option<F::Log>,
-    there: &Inventory,
-) -> Result<Reopened<F::Volume, F::LogDisk>, OpenFault>
-    requires pages { IfSome call.now.pages IsPageCount }
-    requires frames { IsFrameCount call.now.frames }
-    requires claimed { F.is_claimed folder.old }
-    requires inventory { IsInventoryOf (F.entries folder.old) there.now }
-    ensures new { IfOk result (λ it. BeginsAnew (F.entries folder.old) call.now.pages
-        call.now.frames it.first it.engine.state) }
-    ensures handed { IfOk result (λ it. HandsOn (F.entries folder.old) call.now.salvage it.first
-        it.engine.state it.unread.items it.point it.is_master_wrong) }
-    ensures kept { Changes KeepsFiles (F.entries folder.old) (F.entries folder.new) }
-    ensures gone { OnOk result (IsWithoutNote (F.entries folder.new)) }
-    // The names of the log and of the volume last.
-    ensures stored { IfOk result (λ _. F.is_stored folder.new) }
-    ensures refused { IfErr result (λ fault. IsRefusal fault
-        → Changes IsSame (F.entries folder.old) (F.entries folder.new)) }
-    ensures claimed { F.is_claimed folder.new }
-{
-    let alloc = teller.alloc;
-    let manifest = manifest_of_new(alloc, folder, there)?;
-    let pages = count_of_new(alloc, folder, call, there)?;
-    let database = name_for(folder, &manifest)?;
-    there.clear(folder)?;
-    let setup = Setup {
-        pages,
-        frames: call.frames,
-    };
-    let engine = begin(alloc, folder, log, setup)?;
-    Ok(Reopened {
-        engine,
-        first: FirstLine::New(pages),
-        point: None,
-        is_master_wrong: false,
-        unread: Vec::new(alloc),
-        database,
-        manifest,
-        sums: None,
-    })
-}
-
-/// The manifest that stands where there is no log. It must not name one.
-fn manifest_of_new<F: DatabaseFolder>(
-    alloc: Global,
-    folder: &F,
-    there: &Inventory,
-) -> Result<Option<Manifest>, OpenFault>
-    requires { IsInventoryOf (F.entries folder.now) there.now }
-    ensures found { IfOk result
-        (IsFoundIn SpellsManifest (F.entries folder.now) MANIFEST.now) }
-    ensures header { IfOk result (λ it.
-        IfSome (log_line it) (λ file. file.bytes ≤ HEADER_BYTES)) }
-{
-    let manifest = read_manifest(alloc, folder, there.has_manifest)?;
-    match log_line(&manifest) {
-        Some(file) if file.bytes > HEADER_BYTES as u64 => Err(OpenFault::LogLost(Place::Manifest)),
-        _ => Ok(manifest),
-    }
-}
-
-/// How many pages a new database is to have, where one may be made in this folder. It only looks.
-fn count_of_new<F: DatabaseFolder>(
-    alloc: Global,
-    folder: &F,
-    call: &OpenCall<'_>,
-    there: &Inventory,
-) -> Result<u32, OpenFault>
-    requires { IsInventoryOf (F.entries folder.now) there.now }
-    ensures told { IfOk result (λ pages. call.now.pages ≡ Some pages) }
-    ensures files { OnOk result (IfSome (F.entries folder.now) HasNoWidow) }
-    ensures volume { OnOk result (HasNoOtherVolume (F.entries folder.now)) }
-{
-    if let Some(place) = there.widow() {
-        return Err(OpenFault::LogLost(place));
-    }
-    if let Some(name) = &there.stranger {
-        return Err(OpenFault::Stranger(String::from_str(alloc, name)?));
-    }
-    let Some(pages) = call.pages else {
-        return Err(OpenFault::NoCount);
-    };
-    check_volume(folder)?;
-    Ok(pages)
-}
-
 /// Puts the master record in place, answers all lines, and closes the database.
-fn live<F: DatabaseFolder, S: PageStore, D: LogDevice + TellsWhy, R: Read, W: Write>(
-    session: &mut Session<'_, F, S, D>,
+fn serve_and_close<F: DatabaseFolder, S: PageStore, D: LogDevice + TellsWhy, R: Read, W: Write>(
+    session: &mut OpenDatabase<'_, F, S, D>,
     kept: &mut KeptManifest,
     begun: (FirstLine, Option<Point>),
     input: &mut R,
@@ -437,11 +242,11 @@ fn live<F: DatabaseFolder, S: PageStore, D: LogDevice + TellsWhy, R: Read, W: Wr
 }
 
 /// Tells a person that nine tenths of a log are used, if they are.
-fn warn_of_room<F: Folder, S: PageStore, D: LogDevice>(session: &Session<'_, F, S, D>) {
+fn warn_of_room<F: Folder, S: PageStore, D: LogDevice>(session: &OpenDatabase<'_, F, S, D>) {
     let records = session.engine.log().records().len();
     if records.saturating_mul(10) >= MAX_RECORDS.saturating_mul(9) {
         let left = MAX_RECORDS.saturating_sub(records);
-        session.teller.tell(
+        session.diagnostics.tell(
             Place::Log,
             &format_args!("nine tenths of it are used: it takes {left} more records"),
         );
@@ -449,8 +254,8 @@ fn warn_of_room<F: Folder, S: PageStore, D: LogDevice>(session: &Session<'_, F, 
 }
 
 /// Puts the master record of the log's last checkpoint in place, if it is not there.
-pub(crate) fn put_point<F: DatabaseFolder, S: PageStore, D: LogDevice + TellsWhy>(
-    session: &mut Session<'_, F, S, D>,
+pub fn put_point<F: DatabaseFolder, S: PageStore, D: LogDevice + TellsWhy>(
+    session: &mut OpenDatabase<'_, F, S, D>,
     point: Option<Point>,
 )
     requires { F.is_claimed session.old.folder }
@@ -471,7 +276,7 @@ pub(crate) fn put_point<F: DatabaseFolder, S: PageStore, D: LogDevice + TellsWhy
 
 /// Writes the first line, and answers the lines of the input.
 fn serve_all<F: DatabaseFolder, S: PageStore, D: LogDevice + TellsWhy, R: Read, W: Write>(
-    session: &mut Session<'_, F, S, D>,
+    session: &mut OpenDatabase<'_, F, S, D>,
     kept: &mut KeptManifest,
     first: FirstLine,
     input: &mut R,
@@ -497,7 +302,7 @@ fn serve_all<F: DatabaseFolder, S: PageStore, D: LogDevice + TellsWhy, R: Read, 
 
 /// Takes note of lines that came to an end before the input did, and tells why.
 fn note_served<F: Folder, S: PageStore, D: LogDevice>(
-    session: &mut Session<'_, F, S, D>,
+    session: &mut OpenDatabase<'_, F, S, D>,
     served: Result<(), ServeFault>,
     input: &Notes,
     output: &Notes,
@@ -508,7 +313,7 @@ fn note_served<F: Folder, S: PageStore, D: LogDevice>(
 {
     if let Err(fault) = served {
         session.has_failed = true;
-        session.teller.tell_ended(&fault, input, output);
+        tell_ended(&session.diagnostics, &fault, input, output);
     }
 }
 
@@ -528,9 +333,9 @@ fn write_first<W: Write>(alloc: Global, first: FirstLine, writer: &mut W) -> Res
     }
 }
 
-/// How it went.
-fn end_of<F: Folder, S: PageStore, D: LogDevice>(
-    session: &Session<'_, F, S, D>,
+/// How it went: what the status of the program is.
+fn outcome<F: Folder, S: PageStore, D: LogDevice>(
+    session: &OpenDatabase<'_, F, S, D>,
     call: &OpenCall<'_>,
 ) -> OpenEnd
     ensures well { result ≢ Failed → session.now.has_failed ≡ false }
@@ -539,7 +344,7 @@ fn end_of<F: Folder, S: PageStore, D: LogDevice>(
     let is_strict = call.strict && session.tally.has_refused();
     if is_strict {
         let tally = session.tally;
-        session.teller.line(&format_args!("imgcopy: {tally}"));
+        session.diagnostics.line(&format_args!("imgcopy: {tally}"));
     }
     if session.has_failed {
         OpenEnd::Failed

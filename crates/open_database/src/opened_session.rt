@@ -3,31 +3,24 @@
 ghost use Rattle.std.specs.Prelude.{ℕ, ◌≡◌, IfOk, IfSome, List, Option};
 ghost use Rattle.buffer_pool.specs.Pool.{IsFrameCount};
 ghost use Rattle.log_records.specs.Log.{IsPageCount};
-ghost use Rattle.open_database.specs.Opened.{Begins, HandsOn};
+ghost use Rattle.database_opening.specs.Opened.{Begins, HandsOn};
 
-use crate::database_folder::DatabaseFolder;
-use crate::fault::OpenFault;
-use crate::first_line::FirstLine;
-use crate::kept_manifest::KeptManifest;
-use crate::open::{OpenCall, opened};
-use crate::pending::Pending;
-use crate::placed::Placed;
-use crate::restarted::Reopened;
-use crate::session::Session;
-use crate::tally::Tally;
-use crate::told::Teller;
 use aries_core::Engine;
+use database_files::{DatabaseFolder, Diagnostics, KeptManifest, OpenFault};
+use database_opening::{FirstLine, OpenCall, ResumedDatabase, opened};
+use database_session::{OpenDatabase, Placed, UnplacedCopies};
 use file_devices::FileLog;
 use fuzzy_ckpt::Point;
 use log_store::LogDevice;
 use page_store::PageStore;
 use saved_files::Folder;
+use session_lines::Tally;
 use system_files::Notes;
 
 /// A database that was just opened.
 #[derive(Drop)]
-pub(crate) struct OpenedSession<'a, F: Folder, S: PageStore, D: LogDevice> {
-    pub session: Session<'a, F, S, D>,
+pub struct OpenedSession<'a, F: Folder, S: PageStore, D: LogDevice> {
+    pub session: OpenDatabase<'a, F, S, D>,
     pub kept: KeptManifest,
     pub first: FirstLine,
     /// The last checkpoint of the log, if its master record is not in place.
@@ -35,8 +28,8 @@ pub(crate) struct OpenedSession<'a, F: Folder, S: PageStore, D: LogDevice> {
 }
 
 /// Claims a folder and opens the database in it, with the manifest that it keeps.
-pub(crate) fn session_in<'a, F: DatabaseFolder + Drop>(
-    teller: &Teller<'a>,
+pub fn session_in<'a, F: DatabaseFolder + Drop>(
+    diagnostics: &Diagnostics<'a>,
     mut folder: F,
     notes: (&'a Notes, &'a Notes),
     call: &OpenCall<'_>,
@@ -51,8 +44,8 @@ pub(crate) fn session_in<'a, F: DatabaseFolder + Drop>(
         it.session.engine.state it.session.unread.items it.point it.session.is_master_wrong) }
     ensures claimed { IfOk result (λ it. F.is_claimed it.session.folder) }
 {
-    let pending = Pending::new(teller.alloc)?;
-    let Reopened {
+    let unplaced = UnplacedCopies::new(diagnostics.alloc)?;
+    let ResumedDatabase {
         engine,
         first,
         point,
@@ -61,10 +54,17 @@ pub(crate) fn session_in<'a, F: DatabaseFolder + Drop>(
         database,
         manifest,
         sums,
-    } = opened(teller, &mut folder, call)?;
+    } = opened(diagnostics, &mut folder, call)?;
     let (pages, copies) = (engine.log().header_pages(), engine.copies());
-    let kept = KeptManifest::begin(teller, &folder, database, (manifest, sums), pages, copies)?;
-    let mut session = session_on(teller, folder, notes, engine, pending);
+    let kept = KeptManifest::begin(
+        diagnostics,
+        &folder,
+        database,
+        (manifest, sums),
+        pages,
+        copies,
+    )?;
+    let mut session = session_on(diagnostics, folder, notes, engine, unplaced);
     session.is_master_wrong = is_master_wrong;
     session.unread = unread;
     Ok(OpenedSession {
@@ -76,25 +76,25 @@ pub(crate) fn session_in<'a, F: DatabaseFolder + Drop>(
 }
 
 /// An open database in whose folder all that was made is in place.
-pub(crate) fn session_on<'a, F: Folder, S: PageStore, D: LogDevice>(
-    teller: &Teller<'a>,
+pub fn session_on<'a, F: Folder, S: PageStore, D: LogDevice>(
+    diagnostics: &Diagnostics<'a>,
     folder: F,
     notes: (&'a Notes, &'a Notes),
     engine: Engine<S, D>,
-    pending: Pending,
-) -> Session<'a, F, S, D>
+    unplaced: UnplacedCopies,
+) -> OpenDatabase<'a, F, S, D>
     ensures engine { result.engine ≡ engine }
     ensures folder { result.folder ≡ folder }
 {
-    let alloc = teller.alloc;
-    Session {
+    let alloc = diagnostics.alloc;
+    OpenDatabase {
         alloc,
         engine,
         folder,
-        teller: *teller,
+        diagnostics: *diagnostics,
         notes: notes.0,
         store_notes: notes.1,
-        pending,
+        unplaced,
         point: None,
         placed: Placed::nothing(),
         is_master_wrong: false,

@@ -12,7 +12,7 @@ ghost use Rattle.engine_restart.specs.Lives.{Life, commits_of, last_life};
 ghost use Rattle.engine_rules.specs.AnsweredCommits.{answered_commits};
 ghost use Rattle.engine_rules.specs.EngineState.{EngineState, IsFit, log_of};
 ghost use Rattle.engine_rules.specs.Run.{Run};
-ghost use Rattle.image_copies.specs.Copy.{CopyView};
+ghost use Rattle.copy_vault.specs.Copy.{CopyView};
 ghost use Rattle.log_records.specs.Log.{IsLog, Log};
 ghost use Rattle.open_database.specs.PowerCuts.{AreCutLives, BeginsWith, HasForced, IsCommittedIn};
 ghost use Rattle.open_database.specs.PowerCuts.{MayBeRead};
@@ -21,7 +21,7 @@ ghost use Rattle.saved_files.specs.Folder.{Entries, MayLeave, stored};
 use aries_core::Engine;
 use copy_coverage::{a_complete_copy_restores, copies_may_be_restored};
 use file_devices::FileLog;
-use log_front::fronts_have_what_a_device_keeps;
+use log_prefix::fronts_have_what_a_device_keeps;
 use page_store::PageStore;
 use saved_files::Folder;
 use sqlite_disk::Disk;
@@ -77,8 +77,8 @@ pub fn cut_lives_follow_one_another()
 }
 
 /// A cut of the power loses no file that was told of. Where the names of a folder are stored, as
-/// they are once a copy or a checkpoint is answered (`answered` of `Session::answer`), each file
-/// that is there is in all that a crash may leave, whole.
+/// they are once a copy or a checkpoint is answered (`answered` of `OpenDatabase::answer`), each
+/// file that is there is in all that a crash may leave, whole.
 pub fn power_cuts_lose_no_told_file<F: Folder>()
     ensures { (folder : F) (entries left : Entries) (name bytes : List ℕ) → F.is_stored folder
         → F.entries folder ≡ Some entries → MayLeave (F.may_leave folder) left

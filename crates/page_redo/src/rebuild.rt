@@ -5,7 +5,7 @@ ghost use Rattle.page_core.specs.declared.page.Page.{Page};
 ghost use Rattle.log_records.specs.Coverage.{Covers, resume};
 ghost use Rattle.log_records.specs.Image.{image};
 ghost use Rattle.log_records.specs.Log.{IsLog};
-ghost use Rattle.image_copies.specs.Chain.{content, last_redo};
+ghost use Rattle.copy_vault.specs.Chain.{content, last_redo};
 ghost use Rattle.page_redo.specs.Redo.{redone};
 
 use crate::redo::redo_page;

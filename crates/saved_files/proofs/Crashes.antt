@@ -115,7 +115,7 @@ pub taken_ok : (beside name : List ℕ) (contents : Option (List ℕ)) (r s t : 
 taken_ok beside name contents r s t a b c synced one renamed two =
     taken beside name contents r s t a b c synced one (so b c (λ old new it. inl it) renamed) two
 
--- the same of a file that was written to its end
+-- what a crash leaves of a file that was written to its end
 whole_so : (fits more : List ℕ → Type 0) (e : FolderEntry) → ((bytes : List ℕ) → fits bytes → more bytes)
     → IsWhole fits e → IsWhole more e
 whole_so fits more e imply it = (it.0, imply it.0 it.1, it.2)
@@ -167,7 +167,7 @@ then_given_up beside name contents done r s t a b c is unplaced one kept two =
     unplaced one)
     (also (KeepsOthers beside) (LeavesEither s t) b c kept two))
 
--- the same by the text of the name
+-- what it leaves, by the text of the name
 pub written_taken_by : {E : Type 0} (text beside name : List ℕ) (contents : Option (List ℕ))
     (done : Result (Unit {0}) E) (r s : Remains) (a b : Option Entries) → text ≡ beside → done ≡ Ok tt
     → Changes (LeavesTaken text name (λ bytes. contents ≡ Some bytes) r s) a b

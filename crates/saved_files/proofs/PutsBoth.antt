@@ -38,7 +38,7 @@ renamed_same beside name a b c = then a b c (λ old mid new it same. record {
   others = λ n other away. same n ∙ it.others n other away;
 })
 
--- the same, with the name beside as the code passes it
+-- renamed, and the names synced, with the name beside as the code passes it
 pub renamed_same_by : (text beside name : List ℕ) (a b c : Option Entries) → text ≡ beside
     → Changes (IsRenamed text name) a b → Changes IsSame b c → Changes (IsRenamed beside name) a c
 renamed_same_by text beside name a b c equal renamed same =

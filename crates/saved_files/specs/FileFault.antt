@@ -3,8 +3,8 @@ use Rattle.std.specs.Prelude.{ℕ, ◌≡◌, ◌<◌, List, length, take, Optio
 use Rattle.std.specs.Io.KnownBytes.{Appends, Keeps}
 use Rattle.page_core.specs.FaultName.{fault_line, fault_line_with}
 use Rattle.page_core.specs.declared.fault_name.FaultName.TheVariants as name
-use Rattle.copy_archives.specs.declared.archive_fault.ArchiveWriteFault.{ArchiveWriteFault}
-use Rattle.copy_archives.specs.declared.archive_fault.ArchiveWriteFault.TheVariants as archive
+use Rattle.copy_vault.specs.declared.archive_fault.ArchiveWriteFault.{ArchiveWriteFault}
+use Rattle.copy_vault.specs.declared.archive_fault.ArchiveWriteFault.TheVariants as archive
 use Rattle.saved_files.specs.declared.file_fault.FileFault.{FileFault}
 use Rattle.saved_files.specs.declared.file_fault.FileFault.TheVariants.{OutOfMemory, WriteFault}
 

@@ -4,7 +4,7 @@ use Rattle.std.specs.Prelude.{Some}
 use Rattle.std.specs.Option.{option_map}
 use Rattle.log_records.specs.Log.{log_bytes}
 use Rattle.log_store.specs.Master.{master_bytes}
-use Rattle.copy_archives.specs.Archive.{archive_bytes}
+use Rattle.copy_vault.specs.Archive.{archive_bytes}
 use Rattle.copy_vault.specs.Vault.{complete_of, state_of}
 use Rattle.copy_coverage.specs.Retired.{RetiredView}
 use Rattle.saved_files.specs.declared.saved_name.SavedName.{SavedName}

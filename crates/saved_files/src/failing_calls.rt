@@ -38,8 +38,8 @@ impl FailingCalls {
         self.is_late.set(false);
     }
 
-    /// The same, but the call fails once it has done all that it is to do. A call that may not do
-    /// anything where it fails, as `make` and a write of a file may not, fails before.
+    /// Has the `k`-th call from now on fail once it has done all that it is to do. A call that may
+    /// not do anything where it fails, as `make` and a write of a file may not, fails before.
     pub fn fail_late(&self, k: u64) {
         self.fail(k);
         self.is_late.set(true);
@@ -58,7 +58,7 @@ impl FailingCalls {
         }
     }
 
-    /// The same of a call that may fail late.
+    /// Counts a call that may fail late, and is an error where it is to fail at once.
     pub(crate) fn begin_any(&self) -> io::Result<Turn> {
         self.made.set(self.made.get().saturating_add(1));
         let left = self.left.get();

@@ -12,7 +12,7 @@ pub struct MemFile<'a> {
     pub(crate) calls: &'a FailingCalls,
 }
 
-/// The same file, once it was written.
+/// A file of a folder in memory, once it was written.
 #[derive(Drop)]
 pub struct WrittenMemFile {
     pub(crate) number: u64,

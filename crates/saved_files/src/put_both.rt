@@ -165,7 +165,7 @@ fn place<F: Folder>(folder: &mut F, it: Beside<F::Written>, name: &str) -> Resul
 }
 
 impl PlaceFault {
-    /// The same, of one of two files.
+    /// This fault as that of one of two files.
     fn of<E>(self, which: Which) -> PutBothFault<E>
         ensures { result ≡ fault_of which self }
     {

@@ -55,7 +55,7 @@ pub fn put_restored_volume<F: Folder, N: NamedFiles, R: Threads + Sync>(
     store_names(folder)
 }
 
-/// The same, but the names of the folder are not synced.
+/// Restores a volume into a file, and puts that in place. The names of the folder are not synced.
 fn put_volume<F: Folder, N: NamedFiles, R: Threads + Sync>(
     folder: &mut F,
     alloc: Global,
@@ -134,7 +134,8 @@ pub fn put_restored_log<F: Folder, N: NamedFiles, R: Threads + Sync, V: Write>(
     store_names(folder)
 }
 
-/// The same, but the names of the folder are not synced.
+/// Restores a volume to a writer, and its log into a file, which is put in place. The names of the
+/// folder are not synced.
 fn put_log<F: Folder, N: NamedFiles, R: Threads + Sync, V: Write>(
     folder: &mut F,
     alloc: Global,

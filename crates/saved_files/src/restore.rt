@@ -76,7 +76,7 @@ pub(crate) fn told_late<'a, N: NamedFiles>(
     Told::new(files, place, LateFile::new(files, name))
 }
 
-/// The same, read so many bytes at a time.
+/// The file of this name, which stands at this place, read so many bytes at a time.
 fn told_in_pieces<'a, N: NamedFiles>(
     alloc: Global,
     files: &'a N,

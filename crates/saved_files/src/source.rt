@@ -4,7 +4,7 @@ ghost use Rattle.std.specs.Prelude.{ℕ, List, Option, IfErr, OnOk};
 ghost use Rattle.std.specs.Io.KnownBytes.{Appends};
 ghost use Rattle.log_records.specs.Log.{log_bytes};
 ghost use Rattle.log_store.specs.Master.{master_bytes};
-ghost use Rattle.copy_archives.specs.Archive.{archive_bytes};
+ghost use Rattle.copy_vault.specs.Archive.{archive_bytes};
 ghost use Rattle.saved_files.specs.FileFault.{Leaves};
 
 use crate::file_fault::FileFault;

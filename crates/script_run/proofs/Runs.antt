@@ -9,8 +9,8 @@ use Rattle.event_script.specs.declared.script.LastRestore.{LastRestore}
 use Rattle.event_script.specs.Read.{IsText}
 use Rattle.event_script.specs.Script.{said_in}
 use Rattle.event_script.specs.Words.{lines_of}
-use Rattle.script_run.specs.declared.run_fault.RunFault.{RunFault}
-use Rattle.script_run.specs.declared.run_fault.RunFault.TheVariants.{Script, OutOfMemory, WriteFault}
+use Rattle.script_run.specs.declared.run_fault.ScriptRunFault.{ScriptRunFault}
+use Rattle.script_run.specs.declared.run_fault.ScriptRunFault.TheVariants.{Script, OutOfMemory, WriteFault}
 use Rattle.script_run.specs.ReplyLines.{reply_lines}
 use Rattle.script_run.specs.Run.{FailedUnread, IsScript, LeavesPart, Plays, RunLeaves}
 
@@ -21,7 +21,7 @@ script_of None events last said text = text
 script_of (Some bytes) events last said text = record { text = text; said = said }
 
 pub not_written : (pages frames : ℕ) (input old new : Option (List ℕ)) (replies : List (Result Answer Refusal))
-    (left : RetiredView) (last : Option LastRestore) (fault : RunFault) → Plays pages frames input replies left last
+    (left : RetiredView) (last : Option LastRestore) (fault : ScriptRunFault) → Plays pages frames input replies left last
     → LeavesPart (reply_lines replies) old new fault → RunLeaves pages frames input old new fault
 not_written pages frames input old new replies left last OutOfMemory plays leaves = leaves
 not_written pages frames input old new replies left last (WriteFault done) plays leaves = record {
@@ -35,7 +35,7 @@ not_written pages frames input old new replies left last (WriteFault done) plays
 not_written pages frames input old new replies left last (Script fault) plays leaves = absurd leaves
 
 -- a fault of writing is none of reading
-pub was_read : (bytes : List ℕ) (old new before after : Option (List ℕ)) (fault : RunFault)
+pub was_read : (bytes : List ℕ) (old new before after : Option (List ℕ)) (fault : ScriptRunFault)
     → LeavesPart bytes old new fault → FailedUnread before after fault
 was_read bytes old new before after OutOfMemory leaves = tt
 was_read bytes old new before after (WriteFault done) leaves = tt

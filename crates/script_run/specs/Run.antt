@@ -13,9 +13,9 @@ use Rattle.event_script.specs.declared.script.LastRestore.{LastRestore}
 use Rattle.event_script.specs.Read.{GaveNoFault, IsText, Refuses}
 use Rattle.event_script.specs.Script.{said_in}
 use Rattle.event_script.specs.Words.{lines_of}
-use Rattle.script_run.specs.declared.run_fault.RunFault.{RunFault}
-use Rattle.script_run.specs.declared.run_fault.RunFault.TheVariants.{Script, OutOfMemory}
-use Rattle.script_run.specs.declared.run_fault.RunFault.TheVariants.{WriteFault}
+use Rattle.script_run.specs.declared.run_fault.ScriptRunFault.{ScriptRunFault}
+use Rattle.script_run.specs.declared.run_fault.ScriptRunFault.TheVariants.{Script, OutOfMemory}
+use Rattle.script_run.specs.declared.run_fault.ScriptRunFault.TheVariants.{WriteFault}
 use Rattle.script_run.specs.Left.{IsLeftBy}
 use Rattle.script_run.specs.ReplyLines.{reply_lines}
 
@@ -59,7 +59,7 @@ pub record RunsInPart (pages frames : ℕ) (input old new : Option (List ℕ)) (
   pub written : Appends old new (take done (reply_lines replies))
 
 -- the first of these bytes were written, so many but not all; without memory, nothing
-abbrev pub LeavesPart : List ℕ → Option (List ℕ) → Option (List ℕ) → RunFault → Type 0
+abbrev pub LeavesPart : List ℕ → Option (List ℕ) → Option (List ℕ) → ScriptRunFault → Type 0
 LeavesPart bytes old new OutOfMemory = Keeps old new
 LeavesPart bytes old new (WriteFault done) =
     (done < length bytes) × Appends old new (take done bytes)
@@ -67,7 +67,7 @@ LeavesPart bytes old new other = ⊥
 
 -- what stands where a script is not played, or its replies are not written; but for a fault of the
 -- writer nothing was written
-abbrev pub RunLeaves : ℕ → ℕ → Option (List ℕ) → Option (List ℕ) → Option (List ℕ) → RunFault
+abbrev pub RunLeaves : ℕ → ℕ → Option (List ℕ) → Option (List ℕ) → Option (List ℕ) → ScriptRunFault
     → Type 0
 RunLeaves pages frames input old new (Script fault) =
     IfSome input (λ input. Refuses input fault) × Keeps old new
@@ -75,6 +75,6 @@ RunLeaves pages frames input old new OutOfMemory = Keeps old new
 RunLeaves pages frames input old new (WriteFault done) = RunsInPart pages frames input old new done
 
 -- where the reader of the script failed, what it gave until then is not too long
-abbrev pub FailedUnread : Option (List ℕ) → Option (List ℕ) → RunFault → Type 0
+abbrev pub FailedUnread : Option (List ℕ) → Option (List ℕ) → ScriptRunFault → Type 0
 FailedUnread old new (Script fault) = GaveNoFault old new fault
 FailedUnread old new other = Unit {0}

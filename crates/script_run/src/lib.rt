@@ -14,5 +14,5 @@ mod status;
 pub use finish::finish_script;
 pub use finish_fault::FinishFault;
 pub use run::{Ran, run_script};
-pub use run_fault::RunFault;
+pub use run_fault::ScriptRunFault;
 pub use status::{FAULT_STATUS, REFUSED_STATUS, audit_status, refused_status, restore_status};

@@ -7,7 +7,7 @@ ghost use Rattle.log_records.specs.Log.{IsPageCount};
 ghost use Rattle.script_run.specs.Run.{FailedUnread, LeavesPart, RunLeaves, Runs};
 
 use crate::memory_play::play_in_memory;
-use crate::run_fault::RunFault;
+use crate::run_fault::ScriptRunFault;
 use aries_core::Setup;
 use copy_coverage::Retired;
 use event_script::{LastRestore, read_script};
@@ -37,7 +37,7 @@ pub fn run_script<R: Read, W: Write>(
     setup: Setup,
     reader: &mut R,
     writer: &mut W,
-) -> Result<Ran, RunFault>
+) -> Result<Ran, ScriptRunFault>
     requires pages { IsPageCount setup.pages }
     requires frames { IsFrameCount setup.frames }
     ensures ran { IfOk result (λ ran. Runs setup.pages setup.frames
@@ -50,11 +50,11 @@ pub fn run_script<R: Read, W: Write>(
 {
     let script = match read_script(alloc, reader) {
         Ok(script) => script,
-        Err(fault) => return Err(RunFault::Script(fault)),
+        Err(fault) => return Err(ScriptRunFault::Script(fault)),
     };
     let room = script.room;
     let Ok((lines, retired)) = play_in_memory(alloc, setup, &script.events, room) else {
-        return Err(RunFault::OutOfMemory);
+        return Err(ScriptRunFault::OutOfMemory);
     };
     if let Err(fault) = write_lines(&lines, writer) {
         return Err(fault);
@@ -66,7 +66,7 @@ pub fn run_script<R: Read, W: Write>(
 }
 
 /// Writes the lines of the replies.
-fn write_lines<W: Write>(lines: &str, writer: &mut W) -> Result<(), RunFault>
+fn write_lines<W: Write>(lines: &str, writer: &mut W) -> Result<(), ScriptRunFault>
     ensures ok { OnOk result (Appends (W.contents writer.old) (W.contents writer.new)
         lines.now) }
     ensures err { IfErr result (LeavesPart lines.now
@@ -74,6 +74,6 @@ fn write_lines<W: Write>(lines: &str, writer: &mut W) -> Result<(), RunFault>
 {
     match write_out(writer, lines.as_bytes()) {
         Ok(()) => Ok(()),
-        Err(done) => Err(RunFault::WriteFault(done)),
+        Err(done) => Err(ScriptRunFault::WriteFault(done)),
     }
 }

@@ -7,7 +7,7 @@ use std::fmt;
 
 /// Why a script was not played, or its replies were not written. Its text is its line.
 #[derive(Clone, Copy, Debug, PartialEq, Eq)]
-pub enum RunFault {
+pub enum ScriptRunFault {
     /// The script could not be read. Nothing was written.
     Script(ScriptFault),
     /// Memory ran out. Nothing was written.
@@ -17,7 +17,7 @@ pub enum RunFault {
     WriteFault(u64),
 }
 
-impl fmt::Display for RunFault {
+impl fmt::Display for ScriptRunFault {
     ghost use Rattle.std.specs.Prelude.{Some};
     ghost use Rattle.script_run.specs.RunText.{line_of};
 
@@ -25,11 +25,11 @@ impl fmt::Display for RunFault {
 
     fn fmt<W: fmt::Write>(&self, f: &mut fmt::Formatter<W>) -> fmt::Result {
         match self {
-            RunFault::Script(fault) => write!(f, "{fault}"),
-            RunFault::OutOfMemory => write!(f, "{}", FaultName::OutOfMemory),
-            RunFault::WriteFault(done) => write!(f, "{} {done}", FaultName::WriteFault),
+            ScriptRunFault::Script(fault) => write!(f, "{fault}"),
+            ScriptRunFault::OutOfMemory => write!(f, "{}", FaultName::OutOfMemory),
+            ScriptRunFault::WriteFault(done) => write!(f, "{} {done}", FaultName::WriteFault),
         }
     }
 }
 
-impl Error for RunFault {}
+impl Error for ScriptRunFault {}

@@ -81,7 +81,7 @@ impl<'a> SystemFolder<'a> {
         }
     }
 
-    /// The same folder, in which no file takes the place of one that `kept_at` tells of. With force
+    /// Guards the folder: no file takes the place there of one that `kept_at` tells of. With force
     /// it does, but where another one has that file locked it is an error of the kind `WouldBlock`.
     pub fn guarded(self, force: bool) -> SystemFolder<'a> {
         SystemFolder {

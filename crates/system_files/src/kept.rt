@@ -27,13 +27,14 @@ pub enum Kept {
     Copy,
     /// It begins like nothing that is known here, and has the name of a log.
     MaybeLog,
-    /// The same, of a master record.
+    /// It begins like nothing that is known here, and has the name of a master record.
     MaybeMaster,
-    /// The same, of an image copy.
+    /// It begins like nothing that is known here, and has the name of an image copy.
     MaybeCopy,
-    /// The same, of the note of a closing.
+    /// It begins like nothing that is known here, and has the name of the note of a closing.
     MaybeNote,
-    /// The same, of what an opening put aside.
+    /// It begins like nothing that is known here, and has a name that an opening gives what it puts
+    /// aside.
     MaybePutAside,
     /// It cannot be read.
     Unread,

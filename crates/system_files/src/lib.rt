@@ -8,7 +8,7 @@ mod folder;
 mod identity;
 mod kept;
 mod notes;
-mod patient;
+mod retry_would_block;
 
 pub use claim::ClaimFault;
 pub use escaped::{Escaped, EscapedText};
@@ -17,4 +17,4 @@ pub use folder::{SystemFolder, WrittenFile, is_in_use};
 pub use identity::FileIdentity;
 pub use kept::{Kept, copy_id, kept_at};
 pub use notes::{Noted, Notes};
-pub use patient::Patient;
+pub use retry_would_block::RetryWouldBlock;

@@ -20,7 +20,7 @@ fn audited(
     audited_by(alloc, log(alloc, pages)?, members, formats)
 }
 
-/// The same for this log.
+/// What an audit says of such archives for this log.
 fn audited_by(
     alloc: Global,
     mut whole: Vec<u8>,
@@ -59,8 +59,8 @@ fn assert_audit(
     Ok(())
 }
 
-/// The same of the full copy alone, with this checkpoint and redo point, and with this LSN and
-/// slot.
+/// Asserts what an audit says of the full copy alone, with this checkpoint and redo point, and with
+/// this LSN and slot.
 fn assert_full(
     rt: &impl Abort,
     alloc: Global,

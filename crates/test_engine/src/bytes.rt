@@ -70,7 +70,7 @@ pub(crate) fn log(alloc: Global, pages: u64) -> Result<Vec<u8>, Fail> {
     Ok(bytes)
 }
 
-/// The same log of one page, which then grows to two. It ends at 576.
+/// Such a log of one page, which then grows to two. It ends at 576.
 pub(crate) fn grown_log(alloc: Global) -> Result<Vec<u8>, Fail> {
     let mut bytes = log(alloc, 1)?;
     bytes.extend_from_slice(&bytes_of(alloc, &EXTEND)?)?;

@@ -47,7 +47,8 @@ pub(crate) fn failing_store(rt: &(impl Abort + AllocGlobal), pages: u32, k: u64)
     FaultyStore::new(rt.alloc(), store_of(rt, pages), k).expect(rt, "memory for a store")
 }
 
-/// The same, but the call that fails does what it was asked for: it stores the page, or adds pages.
+/// A formatted store whose `k`-th call fails once it did what it was asked for: it stores the page, or
+/// adds pages.
 pub(crate) fn late_store(rt: &(impl Abort + AllocGlobal), pages: u32, k: u64) -> FaultyStore
     requires { IsPageCount pages }
     ensures { result.pages ≡ formatted_pages pages }
@@ -104,7 +105,7 @@ pub(crate) fn called_on<S: PageStore + Drop, D: LogDevice + Drop>(
     engine
 }
 
-/// The same of calls that are played as one list.
+/// A new engine that made these calls as one list. Their replies are asserted.
 fn played_on<S: PageStore + Drop, D: LogDevice + Drop>(
     rt: &(impl Abort + AllocGlobal),
     pages: u32,
@@ -137,7 +138,7 @@ fn called(
     called_on(rt, pages, store, device, &calls)
 }
 
-/// The same over a store of one page whose `k`-th call fails.
+/// An engine that made the calls of these parts over a store of one page whose `k`-th call fails.
 fn called_over(
     rt: &(impl Abort + AllocGlobal),
     k: u64,

@@ -18,7 +18,7 @@ const MASTER: u64 = 0x31_54_53_4d_47_4d_49_41;
 /// That a change is a Set, which stands behind its page and its slot.
 const SET: u64 = 0x1_0000_0000_0000;
 
-/// The same of an Add.
+/// That a change is an Add.
 const ADD: u64 = 0x2_0000_0000_0000;
 
 /// Transaction 1 changes pages 0 and 1, and commits. Both pages are stored.
@@ -43,7 +43,7 @@ const SECOND: [[u64; 8]; 4] = [
     [2 * HIGH + 4, 576, 0, 0, 0, 0, 0, 640],
 ];
 
-/// The same for the first incremental copy.
+/// The checkpoint of the first incremental copy.
 const SECOND_CHECKPOINT: [[u64; 8]; 2] = [
     [7, 0, 0, 0, 0, 0, 0, 704],
     [10, 704, 0, 704, 0, 0, 0, 768],

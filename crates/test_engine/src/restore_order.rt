@@ -178,7 +178,7 @@ fn a_failure_that_is_met_first_is_answered(rt: HostRuntime) -> Result<(), Fail> 
     assert_spoiled(&rt, &FAILURE_FIRST)
 }
 
-/// The same file is spoiled at its first byte, and its reader fails behind so many bytes.
+/// A file is spoiled at its first byte, and its own reader fails behind so many bytes.
 const WHOLE_HEADER: Spoiled = Spoiled {
     step: 64,
     failing: OF_MASTER,

@@ -20,7 +20,7 @@ pub(crate) const FULL: &str = "
     seal 1 -> sealed 1
 ";
 
-/// The same of a page that is stored with the LSN 128.
+/// A full copy of one page, which is stored with the LSN 128.
 const FULL_OF_128: &str = "
     full -> copy 1
     take 1 0 -> taken 128
@@ -423,22 +423,25 @@ pub(crate) const THREE_LOSERS: Row = Row {
 };
 
 /// A transaction takes its last step back, and goes on.
+const A_STEP_TAKEN_BACK: &str = "
+    begin -> began 1 at 192
+    add 1 0 0 5 -> lsn 256
+    save 1 -> saved 256
+    add 1 0 0 7 -> lsn 320
+    undoto 1 256 -> undid 384
+    undoto 1 256 -> reached
+    undoto 1 320 -> E42 NoSavepoint
+    set 1 0 1 9 -> lsn 448
+";
+
 pub(crate) const WENT_BACK: Row = Row {
     pages: 1,
-    parts: &[
-        IDLE,
-        FULL,
-        "
-        begin -> began 1 at 192
-        add 1 0 0 5 -> lsn 256
-        save 1 -> saved 256
-        add 1 0 0 7 -> lsn 320
-        undoto 1 256 -> undid 384
-        undoto 1 256 -> reached
-        undoto 1 320 -> E42 NoSavepoint
-        set 1 0 1 9 -> lsn 448
-    ",
-    ],
+    parts: &[IDLE, FULL, A_STEP_TAKEN_BACK],
+};
+
+pub(crate) const WENT_BACK_AND_COMMITTED: Row = Row {
+    pages: 1,
+    parts: &[IDLE, FULL, A_STEP_TAKEN_BACK, "commit 1 -> lsn 512"],
 };
 
 /// Between a savepoint and the way back to it a checkpoint is taken, whose entry is of an active

@@ -139,11 +139,8 @@ static RUNS: [Run; 26] = [
     ),
     (rows::WENT_BACK, "restore 1 all -> page 0 lsn 576", Ok(())),
     (
-        rows::WENT_BACK,
-        "
-        commit 1 -> lsn 512
-        restore 1 all -> page 0 lsn 448 0=5 1=9
-    ",
+        rows::WENT_BACK_AND_COMMITTED,
+        "restore 1 all -> page 0 lsn 448 0=5 1=9",
         Ok(()),
     ),
     (

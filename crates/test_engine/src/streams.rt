@@ -11,7 +11,7 @@ use std::process::Abort;
 
 const ONE_PAGE: &str = "41494d474c4f4732 0100000000000000 0 0 0 0 0 0";
 
-/// The same in the first format, and in two that there are not.
+/// The header of a log of one page in the first format, and in two that there are not.
 const FIRST_FORMAT: &str = "41494d474c4f4731 0100000000000000 0 0 0 0 0 0";
 
 const NO_FORMAT: &str = "41494d474c4f4730 0100000000000000 0 0 0 0 0 0";
@@ -27,6 +27,8 @@ const ADD_FIVE: &str =
     "0200000001000000 8000000000000000 0 0000000003000200 0 0500000000000000 0 c000000000000000";
 
 const COMMIT: &str = "0400000001000000 c000000000000000 0 0 0 0 0 0001000000000000";
+
+const SECOND_COMMIT: &str = "0400000001000000 c000000000000000 0 0 0 0 0 4001000000000000";
 
 const SET_ONE: &str =
     "0200000001000000 4000000000000000 0 0000000000000100 0 0100000000000000 0 8000000000000000";
@@ -71,6 +73,12 @@ const NO_BYTES: Groups = Groups(&[], 0);
 const OUTSIDE: Groups = Groups(&[ONE_PAGE, BEGIN, SET_IN_PAGE_ONE], 192);
 
 const REPEATED: Groups = Groups(&[ONE_PAGE, BEGIN, SET_SEVEN, ADD_FIVE, COMMIT, COMMIT], 384);
+
+/// The last record again, with an LSN of its own.
+const COMMITTED_TWICE: Groups = Groups(
+    &[ONE_PAGE, BEGIN, SET_SEVEN, ADD_FIVE, COMMIT, SECOND_COMMIT],
+    384,
+);
 
 const SPOILED: Groups = Groups(&[ONE_PAGE, BEGIN, SET_SEVEN_SPOILED, ADD_FIVE, COMMIT], 320);
 
@@ -123,7 +131,7 @@ fn assert_refused<R: Read>(rt: &(impl Abort + AllocGlobal), reader: &mut R, line
     same_at(rt, &volume.len(), &0, &line);
 }
 
-/// The same of some bytes.
+/// Asserts that some bytes are no log.
 pub(crate) fn assert_no_log(rt: &(impl Abort + AllocGlobal), log: Groups, line: &str) {
     assert_refused(rt, &mut bytes_of(rt, log).as_slice(), line);
 }
@@ -157,6 +165,7 @@ fn writes_nothing_of_a_page_outside(rt: HostRuntime) {
 #[test]
 fn writes_nothing_of_a_repeated_record(rt: HostRuntime) {
     assert_no_log(&rt, REPEATED, "E31 BadRecord 320");
+    assert_no_log(&rt, COMMITTED_TWICE, "E35 BadChain 320");
 }
 
 /// Gives at most `step` bytes at a read. Each read is interrupted so often before. The read after

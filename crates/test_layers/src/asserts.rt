@@ -9,7 +9,7 @@ pub(crate) fn same<T: PartialEq + Debug>(rt: &impl Abort, given: &T, wanted: &T)
     assert_eq!(rt; *given, *wanted);
 }
 
-/// The same, and tells which row of a table it is.
+/// Asserts that a value is the wanted one, and tells which row of a table it is.
 pub(crate) fn same_at<T: PartialEq + Debug, P: Debug>(
     rt: &impl Abort,
     given: &T,

@@ -2,7 +2,7 @@
 
 use crate::asserts::same;
 use copy_vault::{ArchiveFault, ArchiveWriteFault, ChainFault, ChainReadFault, CopyFault, CopyId};
-use log_front::FrontFault;
+use log_prefix::FrontFault;
 use log_store::LogReadFault;
 use page_core::{Lsn, PageNo};
 use std::alloc::AllocGlobal;

@@ -2,7 +2,7 @@
 
 ghost use Rattle.std.specs.Prelude.{◌≡◌};
 
-use log_front::forced_behind;
+use log_prefix::forced_behind;
 use log_records::{RECORD_BYTES, Record, encode};
 use page_core::{Lsn, TxnNo};
 use std::alloc::{AllocError, Global};
@@ -13,7 +13,7 @@ const END: Lsn = Lsn(128);
 
 type Bytes = [u8; RECORD_BYTES];
 
-/// The same with one bit flipped, where each record has a 0.
+/// These bytes with one bit flipped, where each record has a 0.
 fn flipped(mut bytes: Bytes) -> Bytes {
     bytes[1] ^= 1;
     bytes

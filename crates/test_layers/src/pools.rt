@@ -249,7 +249,7 @@ fn run(rt: &impl Abort, alloc: Global, pages: u32, k: u64, rows: &[Row]) -> Resu
     done
 }
 
-/// The same of a pool of so many frames, in which no page is resident.
+/// Plays rows on a pool of so many frames, in which no page is resident.
 fn run_in_frames(
     rt: &impl Abort,
     alloc: Global,

@@ -92,7 +92,7 @@ fn turns_go_on_behind_an_archives_page(rt: HostRuntime) -> Result<(), Fail> {
     assert_archive(&rt, 64 + 512)
 }
 
-/// The same where the archive is read beside the one before it, which is whole. Behind its last
+/// Asserts it where the archive is read beside the one before it, which is whole. Behind its last
 /// page that one is asked first.
 fn assert_beside(
     rt: &(impl Abort + AllocGlobal),

@@ -94,12 +94,12 @@ impl Remains {
         Ok(Remains { first, now })
     }
 
-    /// The same again.
+    /// A copy of what is there.
     pub fn copied(&self) -> io::Result<Remains> {
         self.killed(self.now.steps.len())
     }
 
-    /// The same, all of which lasts.
+    /// What is there, all of which lasts.
     pub fn settled(&self) -> io::Result<Remains> {
         Ok(Remains {
             first: self.now.copied()?,
@@ -160,7 +160,7 @@ impl Grain {
         }
     }
 
-    /// The same for the file of this name. Of a volume the first bytes are right, or zeros: an opening
+    /// These pieces for the file of this name. Of a volume the first bytes are right, or zeros: an opening
     /// takes one that begins otherwise for another one's file.
     fn of_file(self, name: &str) -> Grain {
         Grain {

@@ -6,8 +6,8 @@ use crate::disk::SimulatedDisk;
 use crate::machine::{Machine, busy, copied};
 use crate::trouble::Call;
 use crate::volume::SimulatedVolume;
+use database_files::{DatabaseFolder, LogFault, LogFile, Standing, VolumeFault};
 use file_devices::FileLog;
-use open_database::{DatabaseFolder, LogFault, LogFile, Standing, VolumeFault};
 use page_store::MemStore;
 use saved_files::Folder;
 use sqlite_disk::Memory;
@@ -223,14 +223,14 @@ impl<'a> DatabaseFolder for SimulatedFolder<'a> {
     fn open_file(&self, name: &str) -> io::Result<Standing<SimulatedReader>> {
         match self.bytes_of(name)? {
             Some(bytes) => Ok(Standing::File(SimulatedReader::new(bytes))),
-            None => Ok(Standing::Nothing),
+            None => Ok(Standing::Absent),
         }
     }
 
     fn whole(&self, name: &str) -> io::Result<Standing<Vec<u8>>> {
         match self.bytes_of(name)? {
             Some(bytes) => Ok(Standing::File(bytes)),
-            None => Ok(Standing::Nothing),
+            None => Ok(Standing::Absent),
         }
     }
 
@@ -306,7 +306,7 @@ impl<'a> DatabaseFolder for SimulatedFolder<'a> {
 
     fn volume_begins(&self, bytes: &mut [u8]) -> io::Result<Standing<usize>> {
         let Some(there) = self.bytes_of("volume")? else {
-            return Ok(Standing::Nothing);
+            return Ok(Standing::Absent);
         };
         let mut count = 0usize;
         for (byte, first) in bytes.iter_mut().zip(there.iter()) {

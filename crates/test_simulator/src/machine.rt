@@ -105,7 +105,7 @@ impl State {
         }
     }
 
-    /// The same files, of which nothing was asked yet.
+    /// A copy of the files, of which nothing was asked yet.
     pub fn copied(&self) -> io::Result<State> {
         let mut copy = State::new(self.alloc);
         for bytes in &self.files {
@@ -115,7 +115,7 @@ impl State {
         Ok(copy)
     }
 
-    /// The same names.
+    /// A copy of the names.
     pub(crate) fn copied_entries(&self) -> io::Result<Vec<Entry>> {
         let mut entries = Vec::new(self.alloc);
         for entry in &self.entries {
@@ -341,7 +341,7 @@ impl State {
 }
 
 impl Step {
-    /// The same step.
+    /// A copy of this step.
     pub(crate) fn copied(&self, alloc: Global) -> io::Result<Step> {
         Ok(match self {
             Step::Make { name, file } => Step::Make {

@@ -9,7 +9,7 @@ pub mod of_engine_run;
 pub mod of_file_devices;
 pub mod of_fuzzy_ckpt;
 pub mod of_imgcopy_engine;
-pub mod of_log_front;
+pub mod of_log_prefix;
 pub mod of_log_store;
 pub mod of_loser_undo;
 pub mod of_media_restore;

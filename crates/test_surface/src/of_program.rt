@@ -10,6 +10,6 @@ pub use open_database::{OpenCall, OpenEnd, open_folder};
 pub use saved_files::{Source, put_in_place, restore_volume_with_log, save_files};
 pub use script_run::{finish_script, run_script};
 pub use system_files::{
-    ClaimFault, Escaped, EscapedText, FileIdentity, Kept, Noted, Notes, Patient, SystemFiles,
-    SystemFolder, copy_id, is_in_use, kept_at,
+    ClaimFault, Escaped, EscapedText, FileIdentity, Kept, Noted, Notes, RetryWouldBlock,
+    SystemFiles, SystemFolder, copy_id, is_in_use, kept_at,
 };

@@ -50,7 +50,7 @@ fn go_on<G: Ledger, R: Wait + Abort + AllocGlobal>(rt: &R, blank: Blank)
     assert_eq!(rt; left.log().records().len(), 6);
 }
 
-/// The same of an engine that is lent.
+/// A session goes on so with an engine that is lent.
 fn go_on_in<G: Ledger>(
     rt: &(impl Wait + Abort + AllocGlobal),
     shared: &mut Volume<G>,
@@ -64,7 +64,7 @@ fn go_on_in<G: Ledger>(
     session
 }
 
-/// The same engine with a complete copy.
+/// The older engine with a complete copy.
 fn copied_engine(rt: &(impl Abort + AllocGlobal)) -> Engine<MemStore, MemDevice> {
     let mut engine = older_engine(rt);
     assert!(rt; engine.ckpt_begin().is_ok());

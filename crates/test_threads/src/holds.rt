@@ -59,7 +59,7 @@ fn set<G: Ledger>(
     session.set(rt, shared, TxnNo(1), PAGE, SlotNo(0), number)
 }
 
-/// The same while a hold waits at the gate.
+/// Sets the first slot of the page while a hold waits at the gate.
 fn set_at_gate<G: Ledger>(
     rt: &(impl Wait + Abort),
     shared: &Volume<G>,

@@ -128,7 +128,7 @@ const NOT_TAKEN: &str = "
     seal 1 -> E21 PagesLeft 0
 ";
 
-/// The same call takes the page, and the copy and the log go on.
+/// Made again, the call takes the page, and the copy and the log go on.
 const TAKEN_AGAIN: &str = "
     read 0 0 -> value 5
     take 1 0 -> taken 0

@@ -39,7 +39,7 @@ pub(super) fn assert_parts(rt: &(impl Abort + AllocGlobal), pages: u32, parts: &
     drop(played);
 }
 
-/// The same of a row.
+/// Asserts the replies of the parts of a row both ways.
 pub(super) fn assert_row(rt: &(impl Abort + AllocGlobal), row: Row) {
     assert_parts(rt, row.pages(rt), row.parts);
 }

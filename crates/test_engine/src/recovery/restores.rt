@@ -10,6 +10,7 @@ use crate::rows;
 use copy_vault::CopyId;
 use loser_undo::Undone;
 use media_restore::{LoadFault, Refused, load, rebuild};
+use page_core::Lsn;
 use std::process::Abort;
 use std::thread::Threads;
 
@@ -281,6 +282,9 @@ static TAIL: [Restored; 2] = [
 
 #[test]
 fn a_tail_is_lost(rt: HostRuntime) {
+    let left = retired(&rt, LOST_TAIL, 4);
+    same_at(&rt, &left.forced_end(), &Lsn(192), &left.log().end());
+    drop(left);
     assert_each(&rt, &TAIL);
 }
 
@@ -302,6 +306,32 @@ static COPIES_OF_THE_CHAIN: [Restored; 3] = [
 #[test]
 fn a_rollback_is_ended(rt: HostRuntime) {
     assert_each(&rt, &COPIES_OF_THE_CHAIN);
+}
+
+/// What a transaction took back itself is not taken back again.
+static WENT_BACK: [Restored; 2] = [
+    Restored {
+        row: rows::WENT_BACK,
+        redone: &[(0, 448, [5, 9, 0])],
+        undone: &[(0, 576, [0, 0, 0])],
+        appended: &[
+            BackTo(1, 512, 448, 384, (1, 0)),
+            Less(1, 576, 512, 192, (0, 5)),
+            End(1, 640, 576),
+        ],
+        ..WHOLE
+    },
+    Restored {
+        row: rows::WENT_BACK_AND_COMMITTED,
+        redone: &[(0, 448, [5, 9, 0])],
+        undone: &[(0, 448, [5, 9, 0])],
+        ..WHOLE
+    },
+];
+
+#[test]
+fn a_step_that_was_taken_back_stays_so(rt: HostRuntime) {
+    assert_each(&rt, &WENT_BACK);
 }
 
 /// The changes are taken back from the last to the first, whose ever they are.

@@ -116,7 +116,7 @@ pub(super) const REASONS: [(LineFault, &str); 5] = [
     (LineFault::BehindRestore, "nothing may follow a restore"),
 ];
 
-/// The same of more lines.
+/// What is wrong with a line of several, and its number.
 pub(super) static BAD_SCRIPTS: [(&str, u64, LineFault); 5] = [
     (
         "begin\n\n# \u{e4}\r\ncommit x\nbegin y\n",

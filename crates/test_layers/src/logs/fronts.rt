@@ -4,7 +4,7 @@
 use super::readers::{Pairs, Steps};
 use super::vectors::{FIRST_FORMAT, ONE_PAGE, SECOND_FORMAT, bytes_of, header_of};
 use crate::asserts::{same, same_at};
-use log_front::{Cut, CutReason, FrontFault, FrontScan, read_front, scan_front};
+use log_prefix::{Cut, CutReason, FrontFault, FrontScan, read_front, scan_front};
 use log_records::{MAX_LOG_BYTES, MAX_RECORDS, Record, encode};
 use log_store::{LogReadFault, read_log};
 use page_core::{Change, Lsn, PageNo, SlotNo, TxnNo};

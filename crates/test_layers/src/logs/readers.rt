@@ -28,7 +28,7 @@ impl<'a> Steps<'a> {
         }
     }
 
-    /// The same, but every other call is interrupted.
+    /// This reader, but every other call is interrupted.
     pub(crate) fn interrupted(self) -> Steps<'a> {
         Steps {
             interrupts: true,
@@ -36,7 +36,7 @@ impl<'a> Steps<'a> {
         }
     }
 
-    /// The same, but it fails once it gave so many bytes.
+    /// This reader, but it fails once it gave so many bytes.
     pub(crate) fn failing(self, given: usize) -> Steps<'a> {
         Steps {
             fails_after: Some(given),

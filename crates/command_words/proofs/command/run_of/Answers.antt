@@ -13,6 +13,9 @@ returns-clause-ok g c =
           c.frames_in-frames.ensures.read,
       c.get_str-save.ensures ∙ (first_value-rows (found_of c.in_ok-matches.matches) (codes "save")
           ∙ ap (first_of (codes "save")) rows),
+      subst (λ o. IsFlag o c.get_flag-manifest.result)
+          (one_text-rows (found_of c.in_ok-matches.matches) (codes "manifest") ∙ ap (one_of (codes "manifest")) rows)
+          (c.get_flag-manifest.ensures.none, c.get_flag-manifest.ensures.value, c.get_flag-manifest.ensures.other),
       subst (λ o. IsFlag o c.get_flag-strict.result)
           (one_text-rows (found_of c.in_ok-matches.matches) (codes "is_strict") ∙ ap (one_of (codes "is_strict")) rows)
           (c.get_flag-strict.ensures.none, c.get_flag-strict.ensures.value, c.get_flag-strict.ensures.other),

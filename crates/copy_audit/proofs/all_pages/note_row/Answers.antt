@@ -1,6 +1,6 @@
 use Rattle.std.proofs.Common.{ℕ, List, length, map, refl, subst}
 use Rattle.std.specs.Prelude.{None, Some}
-use Rattle.copy_archives.specs.ChainEach.{ids_of, place_list, points_of}
+use Rattle.copy_vault.specs.ChainEach.{ids_of, place_list, points_of}
 use Rattle.copy_audit.specs.Rows.{IsFirstOf}
 use Rattle.copy_audit.proofs.Founds.{none_first}
 use Rattle.copy_audit.proofs.Tells.{told_sound, told_unsound}

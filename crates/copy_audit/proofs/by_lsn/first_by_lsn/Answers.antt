@@ -3,7 +3,7 @@ use Rattle.std.specs.Prelude.{None, Some}
 use Rattle.std.proofs.lemmas.List.{get_or_default}
 use Rattle.page_core.specs.Page.{formatted}
 use Rattle.log_records.specs.Coverage.{Covers}
-use Rattle.copy_archives.specs.ChainEach.{place_list}
+use Rattle.copy_vault.specs.ChainEach.{place_list}
 use Rattle.log_records.specs.declared.record.Record.{Record}
 use Rattle.copy_audit.specs.Changes.{AreChangesOf}
 use Rattle.copy_audit.specs.Rows.{IsSoundIn, content_in}

@@ -9,8 +9,8 @@ use Rattle.page_core.specs.declared.page.Page.{Page}
 use Rattle.log_records.specs.Log.{Log, lsn_of}
 use Rattle.loser_undo.specs.Kept.{Kept}
 use Rattle.page_redo.specs.Placed.{Placed}
-use Rattle.copy_archives.specs.ChainEach.{IsReadingEach, place_list}
-use Rattle.copy_archives.specs.ChainReading.{IsStopped}
+use Rattle.copy_vault.specs.ChainEach.{IsReadingEach, place_list}
+use Rattle.copy_vault.specs.ChainReading.{IsStopped}
 use Rattle.copy_audit.specs.Changes.{AreChangesOf, IsKeptOf}
 use Rattle.copy_audit.specs.Places.{places_on}
 use Rattle.copy_audit.proofs.OnPage.{few_kept, listed_of}

@@ -1,6 +1,6 @@
 use Rattle.std.proofs.Common.{◌≡◌, ◌-◌, length, map}
 use Rattle.page_core.specs.PageCounts.{last_count}
-use Rattle.copy_archives.specs.ChainEach.{points_of}
+use Rattle.copy_vault.specs.ChainEach.{points_of}
 use Rattle.copy_audit.proofs.Looks.{HasLooked}
 use Rattle.copy_audit.proofs.chain_audit.first_in.Given as goal
 

@@ -1,6 +1,6 @@
 use Rattle.std.proofs.Common.{length, map, refl, sym, subst, arith}
 use Rattle.std.specs.Prelude.{Option}
-use Rattle.copy_archives.specs.ChainEach.{place_list}
+use Rattle.copy_vault.specs.ChainEach.{place_list}
 use Rattle.copy_audit.specs.declared.found.Found.{Found}
 use Rattle.copy_audit.specs.Rows.{IsFirstOf}
 use Rattle.copy_audit.proofs.Founds.{IsMost, row_clean, row_found}

@@ -1,5 +1,5 @@
 use Rattle.std.proofs.Common.{◌≡◌, take}
-use Rattle.copy_archives.specs.ChainEach.{points_of}
+use Rattle.copy_vault.specs.ChainEach.{points_of}
 use Rattle.copy_audit.proofs.chain_audit.points_of.Given as goal
 
 abbrev pub invariant-loop-member : goal.invariant-loop-member

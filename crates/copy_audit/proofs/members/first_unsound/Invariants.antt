@@ -1,5 +1,5 @@
 use Rattle.std.proofs.Common.{ℕ, ◌<◌, List, map}
-use Rattle.copy_archives.specs.ChainEach.{place_list}
+use Rattle.copy_vault.specs.ChainEach.{place_list}
 use Rattle.log_records.specs.declared.record.Record.{Record}
 use Rattle.copy_audit.specs.Changes.{AreChangesOf}
 use Rattle.copy_audit.specs.Rows.{IsSoundIn, content_in}

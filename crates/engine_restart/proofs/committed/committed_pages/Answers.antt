@@ -5,7 +5,7 @@ use Rattle.log_records.specs.Log.{IsLog, Log, page_count}
 use Rattle.log_records.specs.declared.limits.TheConstants.{MAX_RECORDS}
 use Rattle.log_records.specs.declared.record.Record.{Record}
 use Rattle.log_records.proofs.Public.{length-redo_all}
-use Rattle.log_front.specs.Front.{LeadsTo}
+use Rattle.log_prefix.specs.Front.{LeadsTo}
 use Rattle.log_rules.specs.Table.{TxnEntry, owed_by_entry}
 use Rattle.std.specs.List.{sum_by}
 use Rattle.std.specs.Prelude.{min}

@@ -1,6 +1,6 @@
 use Rattle.std.proofs.Common.{List, ap, sym, ◌∙◌}
 use Rattle.page_core.specs.declared.page.Page.{Page}
-use Rattle.image_copies.specs.Chain.{content, last_of}
+use Rattle.copy_vault.specs.Chain.{content, last_of}
 use Rattle.engine_restart.specs.Chained.{members}
 use Rattle.engine_restart.proofs.Stands.{content_push, formatted_number}
 use Rattle.engine_restart.proofs.copy_check.content_of.Goals as goal

@@ -3,7 +3,7 @@ use Rattle.std.proofs.lemmas.List.FromFn.{get_or-map-range_with_len, length-map-
 use Rattle.log_records.specs.declared.record.Record.{Record}
 use Rattle.log_records.specs.Log.{page_count}
 use Rattle.page_redo.specs.PageRecords.{numbers_on}
-use Rattle.image_copies.specs.Chain.{content}
+use Rattle.copy_vault.specs.Chain.{content}
 use Rattle.engine_restart.specs.Added.{IsSoundAt}
 use Rattle.engine_restart.specs.Chained.{members}
 use Rattle.engine_restart.proofs.Checking.{same_cover}

@@ -1,12 +1,13 @@
 use Rattle.std.proofs.Common.{◌≡◌, ◌+◌, ◌≤◌, length, refl, ap, arith, subst, sym, ◌∙◌}
 use Rattle.log_records.specs.declared.limits.TheConstants.{MAX_RECORDS}
-use Rattle.log_records.specs.Log.{IsLog, Log, lsn_of}
+use Rattle.log_records.specs.Log.{Log, lsn_of}
 use Rattle.log_records.specs.declared.record.Record.{Record}
 use Rattle.log_rules.specs.Transactions.{owed}
 use Rattle.loser_undo.specs.Losers.{AreLosersOf}
 use Rattle.loser_undo.proofs.Public.{owed_few}
 use Rattle.loser_undo.proofs.Public.{owed_of}
-use Rattle.engine_restart.proofs.Appending.{forces_more, has_lasting, left_alone, stays}
+use Rattle.engine_restart.specs.Restart.{HasLasting, undone_log}
+use Rattle.engine_restart.proofs.Appending.{fails_undo, forces_more, has_lasting, lasts_still, left_alone}
 use Rattle.engine_restart.proofs.undo_on_log.take_back.Goals as goal
 
 pub overflow_add-records : goal.overflow_add-records
@@ -36,15 +37,28 @@ with_undo-requires-clause-room g c =
     subst (λ (log : Log). length log.records + owed log.records ≤ MAX_RECORDS) (sym found.ensures.log)
     (omega (arith, same, is, ap (length {A = Record}) c.records.ensures.records, c.if-records-owed.false))
 
-pub returns-then-records-owed-clause-stands : goal.returns-then-records-owed-clause-stands
-returns-then-records-owed-clause-stands g c =
-    stays g.D.LogDevice.bytes c.args.front.log c.args.device c.args.device
-    (subst IsLog c.into_replayed-log.ensures.log c.records.ensures.valid) c.requires.holds refl
-
 pub returns-in-Err-clause-stands : goal.returns-in-Err-clause-stands
 returns-in-Err-clause-stands g c =
-    stays g.D.LogDevice.bytes c.args.front.log c.args.device c.in-Err.device
-    (subst IsLog c.into_replayed-log.ensures.log c.with_undo.ensures.valid) c.requires.holds c.in-Err.ensures.refused
+    let D = g.D.LogDevice in
+    subst (HasLasting D.bytes D.lasting c.args.front.log) (sym c.in-Err.ensures.refused) c.requires
+
+pub returns-in-Err-force-clause-last_call : goal.returns-in-Err-force-clause-last_call
+returns-in-Err-force-clause-last_call g c = λ _.
+    let D = g.D.LogDevice in
+    let front = c.into_replayed-log.ensures.log in
+    fails_undo c.in-Ok.undone.0 c.force.new.self c.args.front.log c.args.device c.into_parts-device.result.1
+    (c.in-Ok.ensures.forced_end ∙ ap (λ (l : Log). lsn_of (length l.records)) front) c.in-Ok.ensures.device
+    c.into_parts-device.ensures.device D.called D.synced
+    (c.force.ensures.same ∙ c.in-Ok.ensures.undone ∙ ap undone_log front) c.in-Err-force.ensures.last_call
+
+pub returns-in-Err-force-clause-stands : goal.returns-in-Err-force-clause-stands
+returns-in-Err-force-clause-stands g c =
+    let D = g.D.LogDevice in
+    let front = c.into_replayed-log.ensures.log in
+    lasts_still c.in-Ok.undone.0 c.force.new.self c.args.front.log c.args.device c.into_parts-device.result.1
+    (c.in-Ok.ensures.forced_end ∙ ap (λ (l : Log). lsn_of (length l.records)) front) c.in-Ok.ensures.device
+    c.into_parts-device.ensures.device D.bytes D.lasting c.requires c.force.ensures.stands c.force.ensures.rising
+    c.into_parts-device.ensures.lasts
 
 pub returns-in-Ok-force-clause-device : goal.returns-in-Ok-force-clause-device
 returns-in-Ok-force-clause-device g c =

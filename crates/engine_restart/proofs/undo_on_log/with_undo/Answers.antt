@@ -3,7 +3,7 @@ use Rattle.page_core.specs.declared.page.Page.{Page}
 use Rattle.log_records.specs.declared.limits.TheConstants.{MAX_RECORDS}
 use Rattle.log_records.specs.declared.record.Record.{Record}
 use Rattle.log_records.specs.Log.{IsLog, Log}
-use Rattle.log_front.specs.Front.{LeadsTo}
+use Rattle.log_prefix.specs.Front.{LeadsTo}
 use Rattle.log_rules.specs.Table.{TxnEntry}
 use Rattle.log_rules.specs.Transactions.{owed}
 use Rattle.log_store.specs.WrittenLog.{WrittenLog}

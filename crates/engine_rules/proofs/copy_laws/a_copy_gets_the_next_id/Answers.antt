@@ -1,4 +1,4 @@
-use Rattle.image_copies.specs.declared.copy_id.CopyKind.TheVariants.{Full, Inc}
+use Rattle.copy_vault.specs.declared.copy_id.CopyKind.TheVariants.{Full, Inc}
 use Rattle.engine_rules.proofs.Catalogues.{next_id}
 use Rattle.engine_rules.proofs.copy_laws.a_copy_gets_the_next_id.Goals as goal
 

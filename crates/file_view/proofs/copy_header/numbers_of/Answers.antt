@@ -1,6 +1,6 @@
 use Rattle.std.proofs.Common.{◌≡◌, ◌∙◌, refl, sym, ap, arith, List, ℕ, get_or}
 use Rattle.std.specs.Prelude.{slice_range}
-use Rattle.copy_archives.specs.Archive.{header_bytes, parent_of}
+use Rattle.copy_vault.specs.Archive.{header_bytes, parent_of}
 use Rattle.file_view.proofs.CopyHeaders.{begin_at, digit_at, id_at, pages_at, parent_at, redo_at, small, taken_at}
 use Rattle.file_view.proofs.copy_header.numbers_of.Goals as goal
 

@@ -1,7 +1,7 @@
 use Rattle.std.proofs.Common.{arith, subst, sym, true≢false, ◌∙◌}
 use Rattle.std.proofs.lemmas.Str.Parse.{parse_plain}
 use Rattle.std.proofs.lemmas.Str.Pattern.{starts_char}
-use Rattle.open_database.specs.Found.{IsReadOf, SpellsNumber}
+use Rattle.database_files.specs.Found.{IsReadOf, SpellsNumber}
 use Rattle.imgcopy.proofs.ClosingNotes.{begins_wrongly, is_read, own}
 use Rattle.imgcopy.proofs.closing.number_of.Goals as goal
 use Rattle.imgcopy.proofs.closing.number_of.Goals.{then-starts_with-via-then-starts_with, then-starts_with-via-else-starts_with+then-starts_with-2}

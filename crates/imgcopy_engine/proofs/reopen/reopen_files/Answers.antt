@@ -1,7 +1,7 @@
 use Rattle.std.proofs.Common.{subst, sym, ◌∙◌}
 use Rattle.std.specs.Prelude.{Option}
-use Rattle.log_front.specs.Front.{IsFrontOf}
-use Rattle.log_front.specs.declared.cut.Cut.{Cut}
+use Rattle.log_prefix.specs.Front.{IsFrontOf}
+use Rattle.log_prefix.specs.declared.cut.Cut.{Cut}
 use Rattle.log_records.specs.Log.{IsLog, Log, log_bytes}
 use Rattle.engine_rules.specs.EngineState.{EngineState, log_of}
 use Rattle.engine_restart.specs.LogFile.{LastsOnFile}
@@ -36,7 +36,7 @@ pub returns-in-Err-clause-fault : goal.returns-in-Err-clause-fault
 returns-in-Err-clause-fault c =
     let found = c.in_ok-front.field-0 in
     not_undone found.bytes.items found.front found.device c.in_ok-front.ensures.read c.in_ok-front.ensures.front
-    c.in-Err.ensures.fault (c.in-Err.ensures.stands.same ∙ c.in_ok-front.ensures.lasting.holds) c.in-Err.ensures.full
+    c.in-Err.ensures.fault c.in-Err.ensures.stands c.in-Err.ensures.last_call c.in-Err.ensures.full
 
 pub returns-in-Ok-into_engine : goal.returns-in-Ok-into_engine
 returns-in-Ok-into_engine c =

@@ -3,9 +3,9 @@ use Rattle.page_core.specs.declared.page.Page.{Page}
 use Rattle.log_records.specs.Coverage.{resume}
 use Rattle.log_records.specs.Image.{redo_all}
 use Rattle.log_records.specs.Log.{Log, page_count}
-use Rattle.image_copies.specs.Chain.{IsChain, contents, last_redo}
+use Rattle.copy_vault.specs.Chain.{IsChain, contents, last_redo}
 use Rattle.copy_vault.specs.ChainOf.{IsChainOf}
-use Rattle.image_copies.specs.Copy.{CopyView}
+use Rattle.copy_vault.specs.Copy.{CopyView}
 use Rattle.copy_vault.specs.Vault.{CopyState}
 use Rattle.copy_coverage.specs.Kept.{IsKeptOf}
 use Rattle.media_restore.specs.Load.{IsLoaded, LoadedView, kept_log}

@@ -6,7 +6,7 @@ use Rattle.page_core.specs.Volume.{AreNumbered}
 use Rattle.log_records.specs.Coverage.{resume}
 use Rattle.log_records.specs.Log.{counts_of}
 use Rattle.loser_undo.specs.Kept.{Kept}
-use Rattle.copy_archives.specs.ChainReading.{AreNoChain, IsChainRead}
+use Rattle.copy_vault.specs.ChainReading.{AreNoChain, IsChainRead}
 use Rattle.media_restore.specs.Files.{Files, of_the_archives, of_the_master, of_undo}
 use Rattle.media_restore.specs.FilesArchives.{end_of}
 use Rattle.media_restore.specs.FilesStop.{the_archives, the_log, the_master}

@@ -1,8 +1,8 @@
 use Rattle.std.proofs.Common.{subst}
 use Rattle.std.specs.Prelude.{OnOk}
-use Rattle.open_database.proofs.Served.{begins_all, no_first, no_lines, some_lines}
-use Rattle.open_database.specs.FirstLine.{first_line}
-use Rattle.open_database.specs.Session.{ServesAllLines, ServesLines}
+use Rattle.database_session.proofs.Public.{begins_all, no_first, no_lines, some_lines}
+use Rattle.database_opening.specs.FirstLine.{first_line}
+use Rattle.database_session.specs.Session.{ServesAllLines, ServesLines}
 use Rattle.open_database.proofs.open.serve_all.Goals as goal
 
 pub returns-in_default-clause-served : goal.returns-in_default-clause-served

@@ -5,7 +5,7 @@ use Rattle.log_records.specs.Coverage.{resume}
 use Rattle.log_records.specs.Log.{Log}
 use Rattle.log_records.proofs.Public.{resume_covering}
 use Rattle.log_records.proofs.Public.{number-image_from}
-use Rattle.image_copies.specs.Chain.{content, last_redo}
+use Rattle.copy_vault.specs.Chain.{content, last_redo}
 use Rattle.log_store.specs.PageHistory.{is_above}
 use Rattle.page_redo.proofs.rebuild.rebuild_page.Goals as goal
 

@@ -3,8 +3,8 @@ use Rattle.std.proofs.lemmas.Bool.{cases_lt}
 use Rattle.std.proofs.lemmas.Result.{err_from_is_err_and}
 use Rattle.std.proofs.Math.ListN.{get_or-eq_default}
 use Rattle.std.specs.Prelude.{Some, None, option_map}
-use Rattle.copy_archives.specs.Archive.{archive_bytes}
-use Rattle.image_copies.specs.Copy.{CopyView}
+use Rattle.copy_vault.specs.Archive.{archive_bytes}
+use Rattle.copy_vault.specs.Copy.{CopyView}
 use Rattle.copy_vault.specs.Vault.{CopyState, complete_of, dropped, state_of}
 use Rattle.copy_coverage.specs.Retired.{IsRetired, RetiredView}
 use Rattle.log_records.specs.Log.{Log, log_bytes}

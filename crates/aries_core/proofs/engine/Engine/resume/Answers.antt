@@ -15,17 +15,17 @@ use Rattle.aries_core.proofs.engine.Engine.resume.Goals as goal
 
 pub returns-clause-state : goal.returns-clause-state
 returns-clause-state g c =
-    let known = c.args.legacy.checkpoints in
-    resumed_is g.S.PageStore.stored c.resume-2.result c.in-Ok.pool c.args.store c.args.legacy.log c.args.frames
-    (media_view known.last c.session_of.result c.args.legacy.vault.copies c.new.result.made)
+    let known = c.args.parts.checkpoints in
+    resumed_is g.S.PageStore.stored c.resume-2.result c.in-Ok.pool c.args.store c.args.parts.log c.args.frames
+    (media_view known.last c.session_of.result c.args.parts.vault.copies c.new.result.made)
     c.resume-2.ensures.log c.resume-2.ensures.forced_end
     (c.in-Ok.ensures.clean ∙ ap (λ (ps : List Page). clean_pool c.args.store ps c.args.frames) c.requires.pages)
     (c.requires.stored ∙ c.requires.pages) (c.session_of.ensures ∙ c.requires.checkpoints.begun)
 
 pub invariant_of-result : goal.invariant_of-result
 invariant_of-result g c =
-    let log = c.args.legacy.log in
-    let known = c.args.legacy.checkpoints in
+    let log = c.args.parts.log in
+    let known = c.args.parts.checkpoints in
     let stored = g.S.PageStore.stored in
     let state = returns-clause-state g c in
     let log_is = c.resume-2.ensures.log in
@@ -39,7 +39,7 @@ invariant_of-result g c =
     let returns : HasReturns log.records c.new.result.made =
     subst (HasReturns log.records) (sym c.new.ensures) (returns_ended log.records may.linked may.closed) in
     record {
-      fit = subst IsFit (sym state) (resumed_fit log c.args.frames known.last c.args.legacy.vault.copies valid may
+      fit = subst IsFit (sym state) (resumed_fit log c.args.frames known.last c.args.parts.vault.copies valid may
           c.requires.checkpoints.last);
       table_of_log = subst (λ (l : Log). IsTableOf l.records c.ended.result.table) (sym log_is) table;
       pool_of_log = subst (λ (l : Log). IsPoolOf stored l c.in-Ok.pool) (sym log_is)

@@ -3,7 +3,7 @@ use Rattle.std.proofs.lemmas.List.{length-map}
 use Rattle.copy_vault.specs.declared.vault.VaultEntry.{VaultEntry}
 use Rattle.copy_vault.specs.declared.vault.VaultEntry.TheVariants as entry
 use Rattle.copy_vault.specs.Added.{lacks_parent}
-use Rattle.image_copies.specs.Copy.{CopyView}
+use Rattle.copy_vault.specs.Copy.{CopyView}
 use Rattle.copy_vault.specs.Vault.{CopyState, IsVault, VaultView, complete, dropped, state_in}
 use Rattle.copy_vault.proofs.Added.{states_added, vault_added}
 use Rattle.copy_vault.proofs.vault.Vault.add.Goals as goal

@@ -1,11 +1,11 @@
 use Rattle.std.proofs.Common.{◌<◌, reverse, sym, ap, subst, ◌∙◌, arith}
-use Rattle.image_copies.specs.declared.copy_id.CopyKind.TheVariants.{Inc}
+use Rattle.copy_vault.specs.declared.copy_id.CopyKind.TheVariants.{Inc}
 use Rattle.copy_vault.specs.Vault.{state_of}
-use Rattle.image_copies.specs.Chain.{IsChain, lent}
+use Rattle.copy_vault.specs.Chain.{IsChain, lent}
 use Rattle.copy_vault.specs.ChainOf.{IsChainOf}
 use Rattle.copy_vault.proofs.ChainsOf.{IsTail, is_there, known_here, parent_of}
-use Rattle.image_copies.proofs.Public.{is_full, lent_back}
-use Rattle.image_copies.proofs.Public.{reversed}
+use Rattle.copy_vault.proofs.Chains.{is_full, lent_back}
+use Rattle.copy_vault.proofs.Chains.{reversed}
 use Rattle.copy_vault.proofs.ChainsOf.{tail_more, tail_start, tail_whole}
 use Rattle.copy_vault.proofs.vault.Vault.chain.Goals as goal
 

@@ -1,5 +1,5 @@
 use Rattle.std.proofs.Common.{reverse}
-use Rattle.image_copies.specs.Chain.{lent}
+use Rattle.copy_vault.specs.Chain.{lent}
 use Rattle.copy_vault.specs.Vault.{IsOfId}
 use Rattle.copy_vault.proofs.ChainsOf.{IsTail}
 use Rattle.copy_vault.proofs.vault.Vault.chain.Given as goal

@@ -1,5 +1,6 @@
 use Rattle.std.proofs.Common.{◌≡◌, ◌<◌, ◌-◌, List, length, map, ap, sym, subst, ◌∙◌}
-use Rattle.image_copies.specs.Copy.{CopyView, decision_at, undecided}
+use Rattle.page_decisions.specs.Decisions.{decision_at, undecided}
+use Rattle.copy_vault.specs.Copy.{CopyView}
 use Rattle.copy_vault.specs.Vault.{CopyState, VaultView, answer_in, decided, state_in, state_of, reading}
 use Rattle.copy_vault.proofs.Vaults.{entry_read, vault_read, answer_here, decided_here, same_copy, was_undecided}
 use Rattle.copy_vault.proofs.vault.Vault.decide.Goals as goal

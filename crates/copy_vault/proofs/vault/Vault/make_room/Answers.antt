@@ -1,6 +1,6 @@
 use Rattle.std.proofs.Common.{◌≡◌, ◌-◌, map, ap, sym, true, get_or, false, ◌∙◌}
 use Rattle.std.specs.Prelude.{slice_set}
-use Rattle.image_copies.specs.Copy.{CopyView}
+use Rattle.copy_vault.specs.Copy.{CopyView}
 use Rattle.copy_vault.specs.Vault.{VaultView, state_in, state_of, room_in}
 use Rattle.copy_vault.specs.declared.vault.VaultEntry.TheVariants as entry
 use Rattle.page_core.proofs.Public.{on_ok}

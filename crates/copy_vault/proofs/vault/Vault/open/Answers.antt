@@ -1,6 +1,6 @@
 use Rattle.std.proofs.Common.{◌≡◌, ◌<◌, ◌+◌, ℕ, List, length, map, ap, sym, subst, arith, ◌∙◌}
 use Rattle.std.proofs.lemmas.List.{length-map}
-use Rattle.image_copies.specs.Reading.{ReadingView}
+use Rattle.copy_vault.specs.Reading.{ReadingView}
 use Rattle.copy_vault.specs.declared.vault.VaultEntry.TheVariants as entry
 use Rattle.copy_vault.specs.Vault.{CopyState, VaultView, HasParent, since_of, state_in}
 use Rattle.copy_vault.proofs.Vaults.{vault_push, kept_new}

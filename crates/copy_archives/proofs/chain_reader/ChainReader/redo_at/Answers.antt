@@ -1,8 +1,0 @@
-use Rattle.copy_archives.specs.declared.header.ArchiveHeader.{ArchiveHeader}
-use Rattle.copy_archives.proofs.ChainRows.{of_head}
-use Rattle.copy_archives.proofs.chain_reader.ChainReader.redo_at.Goals as goal
-
-pub returns : goal.returns
-returns c =
-    of_head (λ (h : ArchiveHeader). h.redo) c.args.self.now.cursors.items c.args.index c.index.result.now c.requires
-    c.index.ensures

@@ -1,0 +1,7 @@
+use Rattle.std.proofs.Common.{◌<◌, ℕ}
+use Rattle.page_decisions.specs.Decisions.{decision_at}
+use Rattle.database_files.specs.Evidence.{KnowsBelow}
+use Rattle.database_files.proofs.evidence.is_within.Given as goal
+
+abbrev pub invariant-loop-number : goal.invariant-loop-number
+invariant-loop-number l = (p : ℕ) → p < l.number → KnowsBelow l.end (decision_at l.copy.pages p)

@@ -1,0 +1,10 @@
+pub mod Closed
+pub mod DatabaseFolder
+pub mod Evidence
+pub mod Refused
+pub mod Standing
+pub mod Found
+pub mod MovedAside
+pub mod Kept
+pub mod LeftOut
+pub mod Master

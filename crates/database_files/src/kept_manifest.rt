@@ -1,0 +1,243 @@
+//! The manifest that an open database keeps, and the sum of its log.
+
+ghost use Rattle.std.specs.Prelude.{IfOk, ℕ, ◌≡◌, ◌≢◌, ◌++◌, [], List, IfSome, IsTrue, None};
+ghost use Rattle.std.specs.Prelude.{OnOk, Some, false, string_bytes};
+ghost use Rattle.std.specs.List.{flat_map};
+ghost use Rattle.log_records.specs.Log.{Log as TheLog, header_bytes};
+ghost use Rattle.log_records.specs.Record.{record_bytes};
+ghost use Rattle.manifest.specs.Entries.{file_of};
+ghost use Rattle.manifest.specs.declared.entry.Extent.TheVariants.{First};
+ghost use Rattle.manifest.specs.Sums.{HasSummed, IsSumOf};
+ghost use Rattle.database_files.specs.DatabaseFolder.{Tells};
+ghost use Rattle.database_files.specs.Evidence.{log_line};
+ghost use Rattle.database_files.specs.Kept.{HasSummedLog, HaveSummedLine, KeepsLines, bytes_below};
+
+use crate::database_folder::DatabaseFolder;
+use crate::diagnostics::Diagnostics;
+use crate::fault::OpenFault;
+use crate::found_manifest::log_line;
+use crate::names::{LOG, MANIFEST, copy_of};
+use crate::place::Place;
+use copy_vault::Vault;
+use log_records::{Record, encode, encode_header};
+use manifest::{DatabaseName, Extent, FileSum, Manifest, Sums};
+use page_core::{LSN_STEP, Lsn};
+use saved_files::FileFault;
+use std::alloc::Global;
+
+/// How many lines a manifest may have.
+const MOST_LINES: u32 = 4_096;
+
+/// The sum of the first bytes of a log, which goes on where the log grows.
+#[derive(Drop)]
+pub struct LogSums {
+    sums: Sums,
+    /// How many records are summed, behind the header.
+    records: usize,
+}
+
+impl LogSums {
+    /// Of a log whose header gives this page count, the header is summed.
+    pub fn new(pages: u32) -> LogSums
+        ensures { (log : TheLog) → log.pages ≡ pages → HasSummedLog result log }
+    {
+        let mut sums = Sums::new();
+        sums.update(&encode_header(pages));
+        LogSums { sums, records: 0 }
+    }
+
+    /// Of the bytes of a log that a manifest names, if they are summed and end with its header or a
+    /// record; or of a log whose header gives this page count.
+    pub fn found(sums: Option<Sums>, line: Option<FileSum>, pages: u32) -> LogSums
+        ensures { (log : TheLog) → log.pages ≡ pages → HaveSummedLine sums line log
+            → HasSummedLog result log }
+    {
+        match (sums, line) {
+            (Some(sums), Some(line)) if line.bytes >= LSN_STEP && line.bytes % LSN_STEP == 0 => {
+                LogSums {
+                    sums,
+                    records: ((line.bytes / LSN_STEP) as usize).saturating_sub(1),
+                }
+            }
+            _ => LogSums::new(pages),
+        }
+    }
+
+    /// The sum of the bytes of a log up to this LSN, of which those that were summed before are
+    /// not summed again. `None` comes where they are more than that.
+    pub fn below(&mut self, records: &[Record], end: Lsn) -> Option<FileSum>
+        ensures names { IfSome result (λ file. (log : TheLog) → log.records ≡ records.now
+            → HasSummedLog self.old log → IsSumOf file.sum file.bytes (bytes_below end log)) }
+        ensures extent { IfSome result (λ file. file.extent ≡ First) }
+        ensures summed { (log : TheLog) → log.records ≡ records.now → HasSummedLog self.old log
+            → HasSummedLog self.new log }
+    {
+        let count = ((end.0 / LSN_STEP) as usize).saturating_sub(1);
+        let part = records.get(self.records..count)?;
+        sum_records(&mut self.sums, part);
+        self.records = count;
+        let (sum, bytes) = self.sums.now();
+        Some(FileSum {
+            extent: Extent::First,
+            bytes,
+            sum,
+        })
+    }
+}
+
+/// Adds the bytes of these records.
+fn sum_records(sums: &mut Sums, records: &[Record])
+    ensures { (before : List ℕ) → HasSummed sums.old before
+        → HasSummed sums.new (before ++ flat_map record_bytes records.now) }
+{
+    for record in records {
+        sums.update(&encode(record));
+    }
+}
+
+/// The manifest of an open database.
+#[derive(Drop)]
+pub struct KeptManifest {
+    pub manifest: Manifest,
+    pub log: LogSums,
+    /// It stands in the folder as it is.
+    pub is_placed: bool,
+    /// What stands in the folder has a line that is to go.
+    pub is_due: bool,
+}
+
+impl KeptManifest {
+    /// The manifest of a new database of this name, whose log's header gives this page count.
+    pub fn new(alloc: Global, database: DatabaseName, pages: u32) -> KeptManifest
+        ensures { (log : TheLog) → log.pages ≡ pages → HasSummedLog result.log log }
+    {
+        KeptManifest {
+            manifest: Manifest::new(alloc, database),
+            log: LogSums::new(pages),
+            is_placed: false,
+            is_due: false,
+        }
+    }
+
+    /// The manifest of a database of this name: that which was found, if it still stands there,
+    /// without the lines of files that are gone, and of copies that were not taken up; or a new
+    /// one. The log's header gives this page count, and its bytes that were named have this sum.
+    pub fn begin<F: DatabaseFolder>(
+        diagnostics: &Diagnostics<'_>,
+        folder: &F,
+        database: DatabaseName,
+        found: (Option<Manifest>, Option<Sums>),
+        pages: u32,
+        copies: &Vault,
+    ) -> Result<KeptManifest, OpenFault>
+        ensures { IfOk result (λ it. (log : TheLog) → log.pages ≡ pages
+            → HaveSummedLine found.1 (log_line found.0) log → HasSummedLog it.log log) }
+    {
+        let mut kept = KeptManifest::new(diagnostics.alloc, database, pages);
+        let (found, sums) = found;
+        let line = log_line(&found);
+        // A line that this log does not begin with is of another one.
+        let is_of_this = line.is_none() || sums.is_some();
+        kept.log = LogSums::found(sums, line, pages);
+        if let Some(it) = found {
+            if stands(folder, MANIFEST)? {
+                let (mut manifest, has_all) = without_lost(diagnostics, folder, it, Some(copies))?;
+                if !is_of_this {
+                    manifest.remove(LOG);
+                }
+                kept.manifest = manifest;
+                kept.is_placed = has_all && is_of_this;
+                kept.is_due = !kept.is_placed;
+            }
+        }
+        Ok(kept)
+    }
+
+    /// Whether what it says of the log is what is forced now.
+    pub fn has_log_to(&self, end: Lsn) -> bool {
+        match self.manifest.entry(LOG) {
+            Some(file) => file.bytes == end.0,
+            None => false,
+        }
+    }
+}
+
+/// A manifest without the lines of files that are gone, and of copies that were not taken up, where
+/// copies were; and whether it has all of its lines.
+pub fn without_lost<F: DatabaseFolder>(
+    diagnostics: &Diagnostics<'_>,
+    folder: &F,
+    mut manifest: Manifest,
+    copies: Option<&Vault>,
+) -> Result<(Manifest, bool), OpenFault>
+    ensures database { IfOk result (λ it. it.0.database ≡ manifest.database) }
+    ensures kept { IfOk result (λ it. copies.entry ≡ None
+        → KeepsLines (F.entries folder.now) manifest.entries it.0.entries) }
+{
+    let mut has_all = true;
+    for _ in 0..MOST_LINES {
+        let Some(name) = lost_name(diagnostics.alloc, folder, &manifest, copies)? else {
+            break;
+        };
+        let text = name.as_str();
+        diagnostics.tell(
+            Place::Manifest,
+            &format_args!("the line of `{text}` is dropped"),
+        );
+        manifest.remove(text);
+        has_all = false;
+    }
+    Ok((manifest, has_all))
+}
+
+/// The first file that a manifest names and that is gone, or is a copy that was not taken up.
+fn lost_name<F: DatabaseFolder>(
+    alloc: Global,
+    folder: &F,
+    manifest: &Manifest,
+    copies: Option<&Vault>,
+) -> Result<Option<String>, OpenFault>
+    ensures { IfOk result (λ it. IfSome it (λ name. copies.entry ≡ None
+        → Tells (F.entries folder.now) (string_bytes name) false)) }
+{
+    for entry in manifest.entries() {
+        let name = entry.name();
+        if !is_used(copies, name) || !stands(folder, name)? {
+            return Ok(Some(String::from_str(alloc, name)?));
+        }
+    }
+    Ok(None)
+}
+
+/// Whether this is the name of a copy that is taken up, or of no copy.
+fn is_used(copies: Option<&Vault>, name: &str) -> bool
+    ensures { copies.entry ≡ None → IsTrue result }
+{
+    match (copies, copy_of(name)) {
+        (Some(copies), Some(id)) => copies.complete(id).is_some(),
+        _ => true,
+    }
+}
+
+/// Whether something in the folder has this name.
+fn stands<F: DatabaseFolder>(folder: &F, name: &str) -> Result<bool, OpenFault>
+    ensures { IfOk result (Tells (F.entries folder.now) name.now) }
+{
+    match folder.has(name) {
+        Ok(is) => Ok(is),
+        Err(error) => Err(OpenFault::of_folder(error)),
+    }
+}
+
+/// Notes what is known of a file.
+pub fn note_file(manifest: &mut Manifest, name: &str, file: FileSum) -> Result<(), FileFault>
+    ensures there { OnOk result (file_of name.now manifest.new.entries ≡ Some file) }
+    ensures others { OnOk result ((other : List ℕ) → other ≢ name.now
+        → file_of other manifest.new.entries ≡ file_of other manifest.old.entries) }
+    ensures database { OnOk result (manifest.new.database ≡ manifest.old.database) }
+{
+    match manifest.note(name, file) {
+        Ok(()) => Ok(()),
+        Err(_) => Err(FileFault::OutOfMemory),
+    }
+}

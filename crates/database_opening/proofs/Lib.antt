@@ -1,0 +1,6 @@
+mod Anew
+mod Forgotten
+mod LogThere
+mod Resumed
+mod TakingUp
+mod Volumes

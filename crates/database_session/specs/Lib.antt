@@ -1,0 +1,10 @@
+pub mod Calls
+pub mod PageWrites
+pub mod UnplacedCopies
+pub mod Placed
+pub mod Closing
+pub mod CommandCopies
+pub mod CommandCalls
+pub mod MadeFiles
+pub mod CopyBehindPoint
+pub mod Session

@@ -1,8 +1,0 @@
-use Rattle.std.proofs.Common.{◌≡◌}
-use Rattle.image_copies.specs.Chain.{contents}
-use Rattle.image_copies.proofs.chain.Chain.contents.Given as goal
-
-abbrev pub invariant-loop-number : goal.invariant-loop-number
-invariant-loop-number l = record {
-  so_far : l.pages.items ≡ contents l.self l.number;
-}

@@ -1,8 +1,0 @@
-use Rattle.std.proofs.Common.{◌≡◌, take}
-use Rattle.image_copies.specs.Chain.{lent}
-use Rattle.image_copies.proofs.chain.Chain.link.Given as goal
-
-abbrev pub invariant-loop-i : goal.invariant-loop-i
-invariant-loop-i l = record {
-  so_far : lent l.members.items ≡ take l.i l.copies;
-}

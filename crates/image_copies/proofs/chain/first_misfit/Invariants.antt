@@ -1,7 +1,0 @@
-use Rattle.image_copies.proofs.Chains.{FitUpTo}
-use Rattle.image_copies.proofs.chain.first_misfit.Given as goal
-
-abbrev pub invariant-loop-i : goal.invariant-loop-i
-invariant-loop-i l = record {
-  up : FitUpTo l.counts l.copies l.i l.kind;
-}

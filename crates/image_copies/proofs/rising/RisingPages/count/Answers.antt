@@ -1,7 +1,0 @@
-use Rattle.std.proofs.Common.{◌∙◌, length, sym, ap}
-use Rattle.image_copies.specs.Slots.{values}
-use Rattle.image_copies.proofs.InOrder.{length_of}
-use Rattle.image_copies.proofs.rising.RisingPages.count.Goals as goal
-
-pub returns : goal.returns
-returns c = sym (length_of (values c.self.inside.places.items) c.self.inside.count) ∙ ap length c.self.view_is

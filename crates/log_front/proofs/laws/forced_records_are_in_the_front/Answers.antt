@@ -1,5 +1,0 @@
-use Rattle.log_front.proofs.Forced.{forced_in_front}
-use Rattle.log_front.proofs.laws.forced_records_are_in_the_front.Goals as goal
-
-pub returns : goal.returns
-returns c = forced_in_front

@@ -1,5 +1,0 @@
-use Rattle.log_front.proofs.Forced.{kept_in_front}
-use Rattle.log_front.proofs.laws.fronts_have_what_a_device_keeps.Goals as goal
-
-pub returns : goal.returns
-returns g c = kept_in_front g.D.LogDevice.bytes

@@ -1,8 +1,0 @@
-use Rattle.std.proofs.Common.{◌≡◌, ◌-◌, ◌++◌, Some}
-use Rattle.image_copies.specs.declared.copy_id.TheConstants.{MAX_COPIES}
-use Rattle.open_database.specs.Backups.{chain_down}
-use Rattle.open_database.proofs.backup.chain_of.Given as goal
-
-abbrev pub invariant-loop : goal.invariant-loop
-invariant-loop l = l.chain.items ++ chain_down l.vault.copies (MAX_COPIES - l.counter) l.next
-    ≡ chain_down l.vault.copies MAX_COPIES (Some l.fn.id)

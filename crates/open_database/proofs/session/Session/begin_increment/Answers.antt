@@ -1,5 +1,0 @@
-use Rattle.open_database.proofs.CopyCalls.{parent_waits}
-use Rattle.open_database.proofs.session.Session.begin_increment.Goals as goal
-
-pub returns-then-has-clause-made : goal.returns-then-has-clause-made
-returns-then-has-clause-made g c = parent_waits c.args.parent c.args.self.now.engine.state

@@ -1,0 +1,6 @@
+pub mod Decisions
+pub mod Laid
+pub mod Marks
+pub mod Public
+pub mod InOrder
+pub mod OneMore

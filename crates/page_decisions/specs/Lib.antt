@@ -1,0 +1,3 @@
+pub mod Decisions
+pub mod Slots
+pub mod HeldDecisions

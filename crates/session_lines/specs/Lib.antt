@@ -1,0 +1,4 @@
+pub mod Said
+pub mod Commands
+pub mod Lines
+pub mod Orders

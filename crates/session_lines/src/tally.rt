@@ -1,0 +1,52 @@
+//! How many lines were answered by a refusal, or were no calls.
+
+use std::fmt;
+
+/// How many lines were answered, and how many of them by a refusal, or since they were no calls.
+/// Its text is a line for a person.
+#[derive(Clone, Copy, Debug)]
+pub struct Tally {
+    lines: u64,
+    refused: u64,
+    /// The number of the first line that was refused, or 0.
+    first: u64,
+}
+
+impl Tally {
+    /// No line was taken.
+    pub fn new() -> Tally {
+        Tally {
+            lines: 0,
+            refused: 0,
+            first: 0,
+        }
+    }
+
+    /// Takes note of an answer to the line of this number.
+    pub fn note(&mut self, number: u64, is_refused: bool) {
+        self.lines = self.lines.saturating_add(1);
+        if !is_refused {
+            return;
+        }
+        if self.refused == 0 {
+            self.first = number;
+        }
+        self.refused = self.refused.saturating_add(1);
+    }
+
+    /// Whether any line was refused.
+    pub fn has_refused(&self) -> bool {
+        self.refused > 0
+    }
+}
+
+impl fmt::Display for Tally {
+    fn fmt<W: fmt::Write>(&self, f: &mut fmt::Formatter<W>) -> fmt::Result {
+        let (refused, lines, first) = (self.refused, self.lines, self.first);
+        let were = if refused == 1 { "was" } else { "were" };
+        write!(
+            f,
+            "{refused} of {lines} calls {were} refused, the first at line {first}"
+        )
+    }
+}
