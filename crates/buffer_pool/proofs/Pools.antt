@@ -102,7 +102,7 @@ page_is_there stored_in log next pool c some valid is =
     (change_within (page_count log) next within) in
     omega (arith, is.pages)
 
--- the same pages are resident
+-- a page is resident just where it was
 pub resident_later : (pages : List Page) (next : Record) (n : ℕ)
     → is_resident (map (λ page. with_record page next) pages) n ≡ is_resident pages n
 resident_later [] next n = refl

@@ -15,7 +15,7 @@ pub(crate) fn grow_column<T: Drop>(column: &mut Vec<Option<T>>, count: u32)
     }
 }
 
-/// The same of a column without holes: the same value is in each place that is added.
+/// Grows a column without holes: this value is in each place that is added.
 pub(crate) fn grow_column_with<T: Copy>(column: &mut Vec<T>, count: u32, value: T)
     requires room { count ≤ vec_capacity column.old }
     ensures grown { column.new.items

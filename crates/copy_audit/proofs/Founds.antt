@@ -247,7 +247,7 @@ pub no_page : (place : Option Page) → ((page : Page) → place ≡ Some page �
 no_page None none = refl
 no_page (Some page) none = absurd (none page refl)
 
--- the same of what was seen in another order
+-- how far it reaches where members were seen in another order
 pub reach_next : (rs : List Record) (p : ℕ) (row : List (Option Page)) (m : ℕ) (seen : Option Reach) (now old : Reach)
     → m < length row → IsSeenIn rs p (get_or row m None) seen → IsReach rs p (content_in p (map place_list row) m) old
     → (seen ≡ Some now) ⊎ ((seen ≡ None) × (now ≡ old)) → IsReach rs p (content_in p (map place_list row) (m + 1)) now

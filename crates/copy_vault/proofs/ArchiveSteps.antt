@@ -330,7 +330,7 @@ no_end end next h input left mid further it copy page bytes RedoBeyondLog read d
 no_end end next h input left mid further it copy page bytes (PageBeyondLog n) read due last after below took found =
     absurd found
 
--- the same where there are no pages
+-- bytes follow a header without pages, or the reader failed before it gave more
 pub no_end_empty : (end next : ℕ) (h : ArchiveHeader) (input left further : Option (List ℕ)) (it : ArchiveCursor)
     (copy : CopyView) (fault : ChainReadFault) → HasRead end next h input left it copy → it.from ≡ next
     → h.taken ≡ 0 → FindsNoEnd left further fault → FailsAt end next h input further fault

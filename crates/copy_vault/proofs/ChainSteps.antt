@@ -58,7 +58,7 @@ none_found copies p none = sym (ap (last_of (formatted p)) none)
 
 -- ---- a step in one of the archives
 
--- the same facts of the same things
+-- what was read is so, by another name of each thing
 moved : (end next : ℕ) (h : ArchiveHeader) (i l m : Option (List ℕ)) (it jt : ArchiveCursor) (c d : CopyView)
     → l ≡ m → it ≡ jt → c ≡ d → HasRead end next h i l it c → HasRead end next h i m jt d
 moved end next h i l m it jt c d left same copy read =

@@ -106,7 +106,7 @@ pages_before (p ∷ ps) (q ∷ qs) x y ps_valid qs_valid e le =
 
 -- ---- what may be wrong behind a front
 
--- the same header, and the same bytes behind it
+-- two fronts agree: they have one header, and the same bytes behind it
 pub record Agree (h : ArchiveHeader) (pages : List Page) (pending : List ℕ) (k : ArchiveHeader) (others : List Page)
     (rest : List ℕ) : Type 0 where
   pub header : h ≡ k

@@ -23,7 +23,8 @@ accepted_call (event.UndoTo txn at) (answer.Undid lsn) = Some (UndoToCall txn)
 accepted_call (event.Extend count) answer = Some (ExtendCall count)
 accepted_call event answer = None
 
--- the same of any reply: a Commit that is not known to be forced stands in the log, so it counts
+-- the call that any reply shows: a Commit that is not known to be forced stands in the log, so it
+-- counts
 abbrev pub shown_call : Event → Result Answer Refusal → Option Call
 shown_call event (Ok answer) = accepted_call event answer
 shown_call (event.Commit txn) (Err (CommitUnsure lsn)) = Some (CommitCall txn)

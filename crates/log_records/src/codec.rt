@@ -80,7 +80,7 @@ pub(crate) fn decode_update(bytes: &[u8; RECORD_BYTES], at: Lsn) -> Option<Recor
     }
 }
 
-/// The same of a record that only says what its transaction does next.
+/// The record that these bytes spell at this LSN, if it only says what its transaction does next.
 #[inline(always)]
 pub(crate) fn decode_step(bytes: &[u8; RECORD_BYTES], at: Lsn) -> Option<Record>
     ensures found { IfSome result (λ r. IsStep r × (own_lsn r ≡ at) × SpellsRecord r bytes.now) }
@@ -275,7 +275,7 @@ fn if_update(change: Change, fields: &Fields) -> Option<Record>
     if_spelled(valid, update(fields, change), fields)
 }
 
-/// The same of a Comp.
+/// The Comp with this change, if it has just these numbers, and a log may have it.
 #[inline(always)]
 fn if_comp(change: Change, fields: &Fields) -> Option<Record>
     ensures found { IfSome result (λ r. (r ≡ comp_in fields.now change) × IsRecord r

@@ -50,7 +50,8 @@ pub fn update_at(bytes: &[u8], at: Lsn, pages: u32) -> Option<Record>
     }
 }
 
-/// The same of a Begin, a Commit, an Abort or an End, which name no page.
+/// The Begin, Commit, Abort or End that these bytes are at this LSN, if they are one. It names no
+/// page.
 #[inline(always)]
 pub fn step_at(bytes: &[u8], at: Lsn) -> Option<Record>
     requires { length bytes.now ≡ RECORD_BYTES }

@@ -106,7 +106,7 @@ pub fn rule_of_txns(txns: &OpenTransactions, next: &Record) -> Option<BrokenRule
     }
 }
 
-/// The same of a Begin of this transaction.
+/// The rule that a Begin of this transaction breaks; None where it may come next.
 fn rule_of_begin(txns: &OpenTransactions, next: &Record, txn: TxnNo) -> Option<BrokenRule>
     requires { (lsn : ℕ) × (next.now ≡ Begin lsn txn) }
     ensures { MatchOption result (MayNote txns.now.table next.now)

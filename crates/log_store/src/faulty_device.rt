@@ -41,8 +41,8 @@ impl FaultyDevice {
         }
     }
 
-    /// The same, but the call that fails stores its bytes, if there is room for them: the device
-    /// fails late, after they were stored.
+    /// A device whose `k`-th call of `store` fails late: it stores its bytes, if there is room for
+    /// them, and then fails.
     pub fn late(device: MemDevice, k: u64) -> FaultyDevice
         ensures { result ≡ record { memory = device; calls_to_fault = k; is_late = true } }
     {

@@ -148,7 +148,7 @@ impl History {
         }
     }
 
-    /// The same of an Extend, which gives the volume so many pages.
+    /// Follows an Extend, which gives the volume so many pages, if it may come next.
     fn follow_extend(&mut self, next: &Record, pages: u32) -> Result<bool, AllocError>
         requires kind { (lsn : ℕ) × (next.now ≡ Extend lsn pages) }
         ensures taken { IfOk result (λ may. IsTrue may
@@ -172,7 +172,7 @@ impl History {
         Ok(true)
     }
 
-    /// The same of a checkpoint's record, which changes no page.
+    /// Follows a checkpoint's record, which changes no page, if it may come next.
     #[inline(always)]
     fn follow_checkpoint(&mut self, next: &Record) -> Result<bool, AllocError>
         requires valid { IsRecord next.now }
@@ -190,7 +190,7 @@ impl History {
         Ok(true)
     }
 
-    /// The same of a transaction's record.
+    /// Follows a transaction's record, if it may come next.
     #[inline(always)]
     fn follow_transaction(&mut self, next: &Record) -> Result<bool, AllocError>
         requires valid { IsRecord next.now }

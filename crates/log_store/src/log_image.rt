@@ -47,7 +47,7 @@ impl LogImage {
         }
     }
 
-    /// The same where the page count behind all records is known.
+    /// A log of these records, of which the page count behind all of them is known.
     pub(crate) fn from_parts(pages: u32, count: u32, records: Vec<Record>) -> LogImage
         requires log { IsLog (record { pages = pages; records = records.items }) }
         requires count { count ≡ count_behind pages records.items }

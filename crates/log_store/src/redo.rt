@@ -24,7 +24,7 @@ pub fn redo_change(page: &mut Page, had: Lsn, lsn: Lsn, slot: SlotNo, change: &C
     }
 }
 
-/// The same with a record. One that changes another page, or none, is passed over.
+/// Redoes a record on a page so. One that changes another page, or none, is passed over.
 #[inline(always)]
 pub fn redo_record(page: &mut Page, had: Lsn, next: &Record)
     ensures { page.new ≡ if is_above had next.now then with_record page.old next.now else page.old }

@@ -37,7 +37,7 @@ pub fn broken_rule_at<R: Read>(
     Ok(rule_behind(&scan.history, fault, at, bytes))
 }
 
-/// The same behind a log that made this history, and is followed by this fault.
+/// The rule that is broken behind a log that made this history, and is followed by this fault.
 fn rule_behind(
     history: &History,
     fault: Option<LogReadFault>,

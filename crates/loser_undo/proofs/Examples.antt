@@ -41,7 +41,7 @@ mixed_lsn : (image (after_undo mixed) 0).lsn ≡ 640
 unfolding mixed after_undo taken_back formatted
 mixed_lsn = refl
 
--- the same without its last record
+-- what undo makes of it without its last record
 mixed_cut : after_undo (take 7 mixed) ≡ take 7 mixed
     ++ (Comp 512 1 320 192 0 0 (Add 18446744073709551611) ∷ End 576 1 512 ∷ [])
 unfolding mixed after_undo taken_back

@@ -37,8 +37,8 @@ pub fn open_by_tail(alloc: Global, tail: &[Record]) -> Result<Vec<OpenTxn>, Allo
     Ok(known)
 }
 
-/// The same of a whole log. It starts at the BeginChkpt of the complete checkpoint that the master
-/// record names, and reads no record before it.
+/// Finds who is open at the end of a whole log. It starts at the BeginChkpt of the complete
+/// checkpoint that the master record names, and reads no record before it.
 pub fn open_at_end(
     alloc: Global,
     log: &LogImage,

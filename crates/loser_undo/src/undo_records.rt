@@ -51,7 +51,7 @@ fn last_change_at(losers: &Losers, place: usize) -> Option<Lsn>
     losers.last_pending_at(place).map(|change| change.lsn)
 }
 
-/// The same of each place.
+/// The LSN of the last pending change at each place, as far as there is one.
 fn last_changes_of(losers: &Losers) -> [Option<Lsn>; MAX_OPEN]
     ensures { AreLastChanges losers.now result }
 {

@@ -83,7 +83,7 @@ LeavesBoth files old new log_old log_new (OfVolume fault) =
 
 -- ---- what is told of a fault
 
--- the same fault as of a restore that writes the volume alone
+-- a fault counts as that of a restore that writes the volume alone
 abbrev pub told_fault : WithLogFault → RestoreFault
 told_fault (OfLog done) = WriteFault done
 told_fault (OfVolume fault) = fault

@@ -20,7 +20,7 @@ one_more : (is_taken : GivenCount → Bool) (count : ℕ) (x : GivenCount) (answ
 one_more is_taken count x true is = rw is refl
 one_more is_taken count x false is = rw is refl
 
--- the same of the counts that a test takes
+-- what is counted by a test
 pub greatest_taken : (first : ℕ) (gs : List GivenCount) (is_taken : GivenCount → Bool) (i : ℕ) (d : GivenCount)
     (answer : Bool) → i < length gs → is_taken (get_or gs i d) ≡ answer
     → greatest first (filter is_taken (take (i + 1) gs))

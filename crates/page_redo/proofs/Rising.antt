@@ -57,7 +57,7 @@ abbrev pub Rises : ℕ → List Record → Type 0
 Rises low [] = Unit {0}
 Rises low (r ∷ rs) = (low < own_lsn r) × Rises (own_lsn r) rs
 
--- the same records are resumed on two pages whose LSNs are below them all
+-- just these records are resumed on either of two pages whose LSNs are below them all
 same_resumed : (from one other low : ℕ) (rs : List Record) → one ≤ low → other ≤ low → Rises low rs
     → filter (is_resumed from one) rs ≡ filter (is_resumed from other) rs
 same_resumed from one other low [] below under rise = refl

@@ -91,8 +91,8 @@ impl FaultyStore {
         })
     }
 
-    /// The same, but if the call that fails is a write, it leaves the new page: the store fails
-    /// late, after the page was written. The page is not mended by that, if it is damaged. If it is
+    /// A store whose `k`-th call fails late. If it is a write, it leaves the new page: the store
+    /// fails after the page was written. The page is not mended by that, if it is damaged. If it is
     /// a growth, the pages were added.
     pub fn late(alloc: Global, store: MemStore, k: u64) -> Result<FaultyStore, AllocError>
         ensures { IfOk result (λ faulty. faulty ≡ record {

@@ -78,7 +78,7 @@ module _ {P V : Type 0} (none : P) (in_page : P → ℕ → V) (empty : V) where
           ∙ sym (ap (λ b. cond b v (at pages page s)) (ne_eqb slot s apart)
           ∙ at_no_slot pages page s past)
 
-  -- the same of a page that was found, by another name of both numbers
+  -- what is said of one slot is changed in a page that was found, by another name of both numbers
   pub at_put_on : (pages before : List P) (page slot n t : ℕ) (found after : P) (v : V) → n ≡ page → t ≡ slot
       → n < length pages → t < 62 → found ≡ get_or pages n found
       → ((s : ℕ) → s < 62 → in_page after s ≡ cond (eqb t s) v (in_page found s))

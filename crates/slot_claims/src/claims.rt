@@ -278,7 +278,7 @@ impl Claims {
         }
     }
 
-    /// The same of a slot that others may add to.
+    /// Releases one pending change so on a slot that others may add to.
     #[inline(always)]
     fn leave(&mut self, page: PageNo, slot: SlotNo, row: u8, before: Hold)
         requires row { row < ROWS }

@@ -86,7 +86,7 @@ own before after page slot row hold within set p s =
     [ true ↦ refl | false ↦ refl ] in
     both (eqb page p && eqb slot s))
 
--- the same slot
+-- two names of one slot are held alike
 same_place : (cs : List PendingChange) (page slot p s : ℕ) → (eqb page p && eqb slot s) ≡ true
     → hold_by cs page slot ≡ hold_by cs p s
 same_place cs page slot p s e =

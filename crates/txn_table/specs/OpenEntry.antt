@@ -67,7 +67,7 @@ Pushes before old new row c true =
 Pushes before old new row c false =
     IsHeldByOther (claim_at before c.page c.slot) (kind_of c.change) row × (new ≡ old)
 
--- the same of an entry
+-- an entry gets a change as its last pending one, unless another transaction keeps it out
 abbrev pub Updates : Claims → OpenEntry → OpenEntry → PendingChange → Bool → Type 0
 Updates before old new c true =
     IsFreeFor (claim_at before c.page c.slot) (kind_of c.change) old.row

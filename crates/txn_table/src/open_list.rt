@@ -97,7 +97,7 @@ impl OpenList {
         self.search(txn)
     }
 
-    /// The same, by looking at each.
+    /// The row of a transaction, by looking at each.
     fn search(&self, txn: TxnNo) -> Option<u8>
         requires { IsSound self.now }
         ensures found { IfSome result (Sits self.now.order.items self.now.rows.items txn) }
