@@ -9,7 +9,7 @@ use crate::calls::SliceSnapshot;
 use sqlite_disk::{Modelled, Start, is_no_room};
 use std::fs::File;
 use std::io;
-use std::os::unix::fs::FileExt;
+use std::os::unix::fs::{FileExt, MetadataExt};
 use std::snapshot::Snapshot;
 
 /// A call of a file, with its answer.
@@ -83,6 +83,9 @@ pub struct FileCalls {
     notes: Notes,
 }
 
+/// The number that the system has for a file that is not what it was any more.
+const STALE: i32 = 116;
+
 /// The last offset that a file may have, and 1.
 const END_OF_OFFSETS: usize = 1 << 63;
 
@@ -123,6 +126,16 @@ fn write(file: &File, at: usize, bytes: &[u8]) -> io::Result<usize>
     } else {
         Ok(count)
     }
+}
+
+/// Waits until all that was written lasts. It fails where the file has no name any more: what it
+/// has is gone as soon as it is closed.
+fn sync(file: &File) -> io::Result<()> {
+    file.sync_data()?;
+    if file.metadata()?.nlink() == 0 {
+        return Err(io::Error::from_raw_os_error(STALE));
+    }
+    Ok(())
 }
 
 impl sqlite_disk::Calls for FileCalls {
@@ -201,7 +214,7 @@ impl sqlite_disk::Calls for FileCalls {
     }
 
     fn sync(&mut self) -> io::Result<()> {
-        let answer = self.file.sync_data();
+        let answer = sync(&self.file);
         let (is_done, why) = match &answer {
             Ok(()) => (true, 0),
             Err(error) => (false, number_of(error)),

@@ -86,6 +86,18 @@ fn a_file_that_is_shorter_than_its_log_is_refused(rt: HostRuntime) -> Result<(),
 }
 
 #[test]
+fn no_sync_of_a_file_without_a_name_is_done(rt: HostRuntime) -> Result<(), Fail> {
+    let place = own_place(&rt, "nameless")?;
+    let mut log = FileLog::new(rt.alloc(), file_of(&rt, &place, b"")?, Wary)?;
+    log.store(0, b"first")?;
+    log.sync()?;
+    fs::remove_file(&rt, place.as_path())?;
+    log.store(5, b" second")?;
+    assert!(rt; log.sync() == Err(DeviceFault));
+    Ok(())
+}
+
+#[test]
 fn a_file_that_cannot_be_written_is_refused(rt: HostRuntime) -> Result<(), Fail> {
     let place = own_place(&rt, "locked")?;
     let _ = file_of(&rt, &place, b"bytes")?;
