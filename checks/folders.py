@@ -9,7 +9,7 @@ names, and finds a flipped bit, with a manifest and without one. A renewed datab
 one, also where a transaction was open there, and where its pages are many; it has an empty log but for these, a copy and
 a manifest; the old folder is not changed. One that was not closed, or whose log knows of less than what stands beside it,
 is not renewed, nor is one whose numbers need more than half of a log. What is refused leaves nothing, and says why.
-Streams that are full or closed harm no file.
+Streams that are full or closed harm no file. A log that loses its name while it is open has no commit answered for it.
 """
 
 import fcntl
@@ -220,6 +220,7 @@ def second_folders(folders, folder, away):
     newer_folders(folders, folder)
     open_logs(folders, folder)
     a_name_that_leads_elsewhere(folders)
+    logs_that_lose_their_name(folders)
 
 
 def open_logs(folders, folder):
@@ -263,6 +264,34 @@ def a_name_that_leads_elsewhere(folders):
     done = folders.run("open", here, lines=[])
     folders.wants("the folder that has it", done.returncode == 0 and sums_of(there) == before, done)
     folders.wants("its commits", restored(folders, here, "copy-1") == {**NUMBERS}, done)
+
+
+def logs_that_lose_their_name(folders):
+    """While a database is open, its log is removed, replaced or given another name: no force of a file without a name is
+    answered as done, and nothing is written that tells of a log which is not there."""
+    stale = "Stale file handle (os error 116)"
+    lost = ("E26 CommitUnsure 384\nE23 LogFault\n", ["log"] * 3)
+    moved = ("lsn 384\nE29 WriteFault 0\n", [f"{it}: not written" for it in ("master", "manifest", "closed")])
+    acts = {
+        "removed": (lambda log: log.unlink(), lost),
+        "replaced": (lambda log: os.replace(shutil.copy(log, log.with_name("x")), log), lost),
+        "moved": (lambda log: log.rename(log.with_name("elsewhere")), moved),
+    }
+    for name, (act, (answer, lines)) in acts.items():
+        folder = folders.place / f"a log that is {name}"
+        folder.mkdir()
+        life = subprocess.Popen([folders.program, "open", folder, "--pages", "1"], stdin=subprocess.PIPE, stdout=subprocess.PIPE,
+                                stderr=subprocess.PIPE, text=True)
+        life.stdout.readline()
+        for line in ("begin", "set 1 0 0 5", "commit 1"):
+            print(line, file=life.stdin, flush=True)
+            life.stdout.readline()
+        act(folder / "log")
+        answers, errors = life.communicate("begin\nset 2 0 0 6\ncommit 2\ncopy\n")
+        told = "".join(f"imgcopy: {folder}/{it}: {stale}\n" for it in lines)
+        done = subprocess.CompletedProcess(life.args, life.returncode, answers.encode(), errors.encode())
+        there = {it.name for it in folder.iterdir()} - {"log", "elsewhere", "volume"}
+        folders.wants(f"a log that is {name}", answers.endswith(answer) and (life.returncode, errors) == (2, told) and not there, done)
 
 
 def newer_folders(folders, folder):

@@ -17,7 +17,7 @@ use saved_files::Folder;
 use sqlite_disk::Start;
 use std::alloc::{AllocError, Global};
 use std::cell::Cell;
-use std::fs::File;
+use std::fs::{File, Metadata};
 use std::io::{ErrorKind, Printer, Read};
 use std::os::unix::fs::{FileExt, MetadataExt};
 use std::path::{Path, PathBuf};
@@ -38,6 +38,8 @@ pub struct SystemDatabase<'a, S: Start> {
     store_notes: &'a Notes,
     /// The device and the number of the folder that was claimed.
     claimed: Option<(u64, u64)>,
+    /// The device and the number of the log's file, from when it was opened or made.
+    log: Cell<Option<(u64, u64)>>,
     /// What is supposed of the log's file, until that is opened: a log is opened once.
     start: Cell<Option<S>>,
 }
@@ -59,28 +61,49 @@ impl<'a, S: Start> SystemDatabase<'a, S> {
             notes: notes.0,
             store_notes: notes.1,
             claimed: None,
+            log: Cell::new(None),
             start: Cell::new(start),
         }
     }
 
     /// The device and the number of the folder that has its name now.
     fn identity(&self) -> io::Result<(u64, u64)> {
-        let there = fs::metadata(self.rt, self.name)?;
-        Ok((there.dev(), there.ino()))
+        Ok(identity_of(&fs::metadata(self.rt, self.name)?))
     }
 
-    /// Sees that the name leads to the folder that was claimed: by a name that leads elsewhere now,
-    /// as a link that was changed, files of another database would be replaced.
+    /// Sees that the name leads to the folder that was claimed, and the log's name to the file that
+    /// is open. By a name that leads elsewhere now, as a link that was changed, files of another
+    /// database would be replaced; and files that tell of a log are of no use without it.
     fn stay(&self) -> io::Result<()> {
-        let stays = match (self.claimed, self.identity()) {
-            (Some(claimed), Ok(now)) if claimed != now => {
-                Err(io::Error::from_raw_os_error(STALE))
-            }
-            (_, Ok(_)) => Ok(()),
-            (_, Err(error)) => Err(error),
+        let stays = match self.is_as_claimed() {
+            Ok(true) => Ok(()),
+            Ok(false) => Err(io::Error::from_raw_os_error(STALE)),
+            Err(error) => Err(error),
         };
         self.notes.note(&stays);
         stays
+    }
+
+    fn is_as_claimed(&self) -> io::Result<bool> {
+        let now = self.identity()?;
+        if self.claimed.is_some_and(|claimed| claimed != now) {
+            return Ok(false);
+        }
+        let Some(open) = self.log.get() else {
+            return Ok(true);
+        };
+        match fs::metadata(self.rt, self.place_of(LOG)?.as_path()) {
+            Ok(there) => Ok(identity_of(&there) == open),
+            Err(error) if error.kind() == ErrorKind::NotFound => Ok(false),
+            Err(error) => Err(error),
+        }
+    }
+
+    /// The log's name is given to another file, or taken away.
+    fn leave_log(&self, name: &str) {
+        if name == LOG {
+            self.log.set(None);
+        }
     }
 
     /// Where the file of this name stands.
@@ -137,7 +160,10 @@ impl<'a, S: Start> Folder for SystemDatabase<'a, S> {
 
     fn rename(&mut self, from: &str, to: &str) -> io::Result<()> {
         self.stay()?;
-        self.folder.rename(from, to)
+        self.folder.rename(from, to)?;
+        self.leave_log(from);
+        self.leave_log(to);
+        Ok(())
     }
 
     fn give_up(&mut self, name: &str, file: WrittenFile) -> io::Result<()> {
@@ -215,12 +241,15 @@ impl<'a, S: Start> DatabaseFolder for SystemDatabase<'a, S> {
 
     fn remove(&mut self, name: &str) -> io::Result<()> {
         self.stay()?;
-        fs::remove_file(self.rt, self.place_of(name)?.as_path())
+        fs::remove_file(self.rt, self.place_of(name)?.as_path())?;
+        self.leave_log(name);
+        Ok(())
     }
 
     fn open_log(&self, writes: bool) -> Result<Option<LogFile<SystemLog<S>>>, LogFault> {
         match opened_log(self.rt, &self.place_of(LOG)?, writes)? {
             Some(LogFile { file, len }) => {
+                self.log.set(Some(identity_of(&file.metadata()?)));
                 let start = self.start.take();
                 Ok(Some(LogFile {
                     file: SystemLog { file, start },
@@ -233,6 +262,7 @@ impl<'a, S: Start> DatabaseFolder for SystemDatabase<'a, S> {
 
     fn make_log(&mut self) -> Result<SystemLog<S>, LogFault> {
         let file = made_log(self.rt, &self.place_of(LOG)?)?;
+        self.log.set(Some(identity_of(&file.metadata()?)));
         let start = self.start.take();
         Ok(SystemLog { file, start })
     }
@@ -302,6 +332,11 @@ impl<'a, S: Start> DatabaseFolder for SystemDatabase<'a, S> {
         let mut file = fs::open(self.rt, RANDOM)?;
         file.read_exact(bytes)
     }
+}
+
+/// The device and the number of a file or folder.
+fn identity_of(there: &Metadata) -> (u64, u64) {
+    (there.dev(), there.ino())
 }
 
 /// A log's device on a file, which is emptied.
