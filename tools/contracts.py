@@ -5,6 +5,9 @@ crate: its items with their signatures and the full text of their clauses, and t
 usage: contracts.py            writes them
        contracts.py --check    writes nothing, and fails if they cannot be made, if the page of a crate lacks a function
                                that users can name, or if a link of theirs leads nowhere
+       contracts.py --count    writes nothing, and prints for each crate how many functions have a clause `ensures`, of
+                               their own or of a trait of these crates, and how many lines these functions have; the
+                               others are proved safe, and to end, and no more
 
 It reads the sources by their layout, which is that of `rt fmt`: the items of a module begin at the start of a line, and
 those of an `impl` or a `trait` behind four spaces.
@@ -63,6 +66,7 @@ CLAUSE = re.compile(r"\b(?:requires|ensures)\b")
 PLAIN = re.compile(r"^(?:unsafe )?(impl\b[^{]*)|^( {4}|)pub (?:const |unsafe )*fn (\w+)", re.MULTILINE)
 HEADING = re.compile(r"^#+ (.*)$", re.MULTILINE)
 LINK = re.compile(r"\]\(([\w.]+\.md)(?:#([\w-]+))?\)")
+ENSURES = re.compile(r"\bensures\b")
 # A line of a struct that has a private field.
 FIELD = re.compile(r"^    (?!pub |///|#\[)\S.*\n", re.MULTILINE)
 
@@ -462,10 +466,49 @@ def plain_functions(module, exports):
             yield f"{owner}::{name}" if indent else name
 
 
+def functions_of(crate):
+    """Each function of a crate but those of tests, whether its own head has a clause, and how many lines it has."""
+    for module in modules_of(crate)[0]:
+        shown = hide(module.file.read_text(encoding="utf-8"))
+        for item in (item for item in module.items if item.kind == "fn"):
+            head = head_of_function(shown[item.start:])
+            body = shown[item.start + len(head):]
+            yield item, bool(ENSURES.search(head)), f"{head}{body[:end_of_item(body)]}".count("\n") + 1
+
+
+def trait_function(item):
+    """The trait and the name of a function of an `impl` of a trait, or None."""
+    found = re.match(r"impl (?:\w+::)*(\w+)(?:<.*>)? for ", item.owner)
+    return (found[1], item.name) if found else None
+
+
+def counted():
+    """The lines that `--count` prints: a line for each crate, and one for those that stand above the tests."""
+    functions = {crate: list(functions_of(crate)) for crate in crates()}
+    names = list(functions)
+    above = names[:next(at for at, name in enumerate(names) if name.startswith("test_"))]
+    of_traits = {(subject_of(item), item.name) for found in functions.values()
+                 for item, has_clause, _ in found if has_clause and item.owner.startswith("trait ")}
+
+    def line(name, found):
+        stated = [lines for item, has_clause, lines in found if has_clause or trait_function(item) in of_traits]
+        numbers = len(found), len(stated), sum(lines for _, _, lines in found), sum(stated)
+        shares = [100 * part // whole for whole, part in (numbers[:2], numbers[2:])]
+        row = name, *numbers[:2], shares[0], *numbers[2:], shares[1]
+        return "{:20}{:>10,}{:>10,}{:>5} %{:>9,}{:>10,}{:>5} %".format(*row)
+
+    yield "crate                functions    with a clause    lines    with a clause"
+    yield from (line(name, found) for name, found in functions.items() if found)
+    yield line("engine and program", [it for name in above for it in functions[name]])
+
+
 def main(arguments):
-    if arguments not in ([], ["--check"]):
-        sys.exit("usage: contracts.py [--check]")
+    if arguments not in ([], ["--check"], ["--count"]):
+        sys.exit("usage: contracts.py [--check|--count]")
     try:
+        if arguments == ["--count"]:
+            print(*counted(), sep="\n")
+            return
         found = list(shown_crates())
         made = documents(found)
         wrong = list(faults(found, made))
