@@ -27,7 +27,7 @@ impl<G: Ledger> User<G> {
         shared: &Volume<D, G>,
     ) -> Result<(), Refusal> {
         let Shape { changes, reads } = self.shape;
-        let (txn, _) = self.session.begin(rt, shared)?;
+        let txn = self.session.begin(rt, shared)?.txn;
         for slot in 0..changes {
             self.session
                 .add(rt, shared, txn, self.page, SlotNo(slot), 1)?;

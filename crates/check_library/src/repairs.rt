@@ -62,7 +62,7 @@ impl<G: Ledger> Hand<G> {
 
     /// A transaction that adds 1 to the slot of a page.
     fn add_to(&mut self, rt: &impl Wait, shared: &Volume<G>, page: PageNo) -> Result<(), Refusal> {
-        let (txn, _) = self.session.begin(rt, shared)?;
+        let txn = self.session.begin(rt, shared)?.txn;
         self.session.add(rt, shared, txn, page, SLOT, 1)?;
         self.session.commit(rt, shared, txn)?;
         Ok(())

@@ -62,7 +62,7 @@ fn add_one<G: Ledger>(
     if was_refused(&begun, again) {
         begun = session.begin(rt, shared);
     }
-    let (txn, _) = begun.ok()?;
+    let txn = begun.ok()?.txn;
     let mut added = session.add(rt, shared, txn, PAGE, SLOT, 1);
     if was_refused(&added, again) {
         added = session.add(rt, shared, txn, PAGE, SLOT, 1);
@@ -72,7 +72,7 @@ fn add_one<G: Ledger>(
     if was_refused(&read, again) {
         read = session.read(rt, shared, PAGE, SLOT);
     }
-    if read != Ok(sum) {
+    if read.ok()?.number != sum {
         return None;
     }
     commit(rt, shared, session, txn, again)

@@ -1,6 +1,7 @@
 //! What is said of a commit that was answered.
 
 ghost use Rattle.std.specs.Prelude.{◌≡◌, [], ◌∷◌, ◌++◌, IfOk, OnErr};
+ghost use Rattle.imgcopy_engine.specs.settlement.Receipt.{step_receipt};
 ghost use Rattle.imgcopy_engine.specs.settlement.declared.receipt.Receipt.TheVariants.{Stepped};
 ghost use Rattle.imgcopy_engine.specs.settlement.declared.receipt.TxnStep.TheVariants as step;
 
@@ -36,10 +37,10 @@ impl Acknowledged {
         txn: TxnNo,
     ) -> Result<Acknowledged, Refusal>
         ensures receipt { IfOk result (λ it.
-            session.new ≡ session.old ++ Stepped it txn step.Commit ∷ []) }
+            session.new ≡ session.old ++ Stepped (step_receipt it txn step.Commit) ∷ []) }
         ensures refused { OnErr result (session.new ≡ session.old) }
     {
-        let lsn = session.commit(rt, bank, txn)?;
+        let lsn = session.commit(rt, bank, txn)?.lsn;
         Ok(Acknowledged { lsn })
     }
 }

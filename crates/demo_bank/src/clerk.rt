@@ -7,8 +7,8 @@ use crate::draws::{Draws, Transfer};
 use crate::halt::Halt;
 use crate::watch::Watch;
 use imgcopy_engine::{
-    HoldGate, LogDevice, MAX_SESSIONS, PageNo, PageStore, Refusal, Session, Shared, SlotNo, TxnNo,
-    Undone, Work,
+    HoldGate, LogDevice, MAX_SESSIONS, PageNo, PageStore, Refusal, Session, Shared, SlotNo,
+    StepReceipt, TxnNo, TxnStep, Work,
 };
 use std::alloc::Global;
 use std::sync::Wait;
@@ -116,7 +116,7 @@ impl<G: Ledger> Clerk<G> {
         page: PageNo,
         slot: SlotNo,
         call: &PageCall,
-    ) -> Result<Option<Undone>, Refusal> {
+    ) -> Result<Option<StepReceipt>, Refusal> {
         match call {
             PageCall::Set(txn, number) => {
                 self.session.set(rt, bank, *txn, page, slot, *number)?;
@@ -142,7 +142,7 @@ impl<G: Ledger> Clerk<G> {
         page: PageNo,
         slot: SlotNo,
         call: &PageCall,
-    ) -> Result<Option<Undone>, Halt> {
+    ) -> Result<Option<StepReceipt>, Halt> {
         let mut faults = 0u32;
         for _ in 0..MOST_TRIES {
             office.helper.may_go_on()?;
@@ -164,7 +164,7 @@ impl<G: Ledger> Clerk<G> {
         rt: &impl Wait,
         office: &Office<'_, S, D, G, H>,
     ) -> Result<Acknowledged, Halt> {
-        let (txn, _) = self.session.begin(rt, office.bank)?;
+        let txn = self.session.begin(rt, office.bank)?.txn;
         let call = PageCall::Set(txn, OPENING);
         for account in 0..ACCOUNTS {
             let (page, slot) = place_of(account);
@@ -224,7 +224,7 @@ impl<G: Ledger> Clerk<G> {
         transfer: &Transfer,
     ) -> Result<Option<Acknowledged>, Halt> {
         office.helper.may_go_on()?;
-        let (txn, _) = self.session.begin(rt, office.bank)?;
+        let txn = self.session.begin(rt, office.bank)?.txn;
         self.take_from(rt, office, txn, transfer)?;
         let (page, slot) = place_of(transfer.from);
         self.ask(rt, office, page, slot, &PageCall::Read)?;
@@ -250,7 +250,7 @@ impl<G: Ledger> Clerk<G> {
         for account in [transfer.to, transfer.from, transfer.from] {
             let (page, slot) = place_of(account);
             let done = self.ask(rt, office, page, slot, &PageCall::UndoStep(txn))?;
-            if let Some(Undone::Ended(_)) = done {
+            if done.is_some_and(|it| it.step == TxnStep::End) {
                 break;
             }
         }

@@ -65,7 +65,7 @@ impl<G: Ledger> Clerk<G> {
     ) -> Result<(), Halt> {
         if let Duty::Teller(draws) = &mut self.duty {
             let transfer = draws.transfer();
-            let (txn, _) = self.session.begin(rt, office.bank)?;
+            let txn = self.session.begin(rt, office.bank)?.txn;
             self.take_from(rt, office, txn, &transfer)?;
             if has_come {
                 self.give_to(rt, office, txn, &transfer)?;
@@ -109,7 +109,7 @@ impl<G: Ledger> Clerk<G> {
 
     /// Gives the first account of each page 1 of what the last account has.
     fn share_out(&mut self, rt: &impl Wait, office: &MemOffice<'_, G>) -> Result<(), Halt> {
-        let (txn, _) = self.session.begin(rt, office.bank)?;
+        let txn = self.session.begin(rt, office.bank)?.txn;
         for page in 0..ACCOUNT_PAGES {
             self.pay(rt, office, txn, ACCOUNTS - 1, 1u64.wrapping_neg())?;
             self.ask(rt, office, PageNo(page), SlotNo(0), &PageCall::Add(txn, 1))?;

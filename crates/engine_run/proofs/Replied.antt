@@ -21,7 +21,7 @@ use Rattle.engine_rules.specs.EngineState.{EngineState, IsFit, commit_record, en
 use Rattle.engine_rules.specs.EngineView.{EngineView}
 use Rattle.engine_rules.specs.Step.{Step, reply_of, written_log_of}
 use Rattle.engine_rules.specs.Uses.{AsksStore, ForcesDevice}
-use Rattle.engine_run.specs.Replies.{ForcesCommit, MadeOn, RepliesBy}
+use Rattle.engine_run.specs.Replies.{ForcesCommit, MadeOn, ReadsAt, RepliesBy}
 
 module _ {S D T : Type 0} (pages : store.Ghosts S) (log : device.Ghosts D) (old new : EngineView S D) (event : Event)
     (answered : T → Answer) where
@@ -128,3 +128,18 @@ module _ {S D : Type 0} (pages : store.Ghosts S) (log : device.Ghosts D) (old ne
         there = both.0;
         forced = both.1;
       }
+
+-- ---- a read, and where the log ended then
+
+module _ {S D : Type 0} (pages : store.Ghosts S) (log : device.Ghosts D) (old new : EngineView S D) (page slot lsn number : ℕ)
+    where
+  pub reads_at : IsFit old.state → Step old.state (event.Read page slot) (Ok (answer.Number number)) new.state
+      → AsksStore pages.gave pages.wrote pages.grew pages.failures (asked old.state (event.Read page slot)) old (Ok number) new
+      → ForcesDevice log.called log.synced log.failures log.fails_from old (Ok number) new
+      → IsGrown new.state.stored (pages.stored new.store) → IsWritten log.bytes (written_log_of new)
+      → lsn ≡ end old.state → ReadsAt (MadeOn pages log) page slot lsn number
+  unfolding replied
+  reads_at fit step uses ends stored written at = record {
+    reply = replied pages log old new (event.Read page slot) answer.Number (Ok number) fit step uses ends stored written;
+    ended = sym at;
+  }

@@ -13,7 +13,7 @@ use Rattle.copy_coverage.specs.Kept.{IsKeptOf}
 use Rattle.copy_coverage.specs.Retired.{IsRetired, RetiredView}
 use Rattle.settlement.specs.declared.receipt.Receipt.{Receipt}
 use Rattle.settlement.specs.declared.receipt.Receipt.TheVariants.{Read}
-use Rattle.settlement.specs.Receipt.{written}
+use Rattle.settlement.specs.Receipt.{read_receipt, written}
 use Rattle.settlement.specs.Session.{AllStand}
 use Rattle.settlement.specs.Sessions.{AreApart, IsCommitIn, all_receipts}
 use Rattle.settlement.proofs.Public.{commits_kept, own_write}
@@ -127,7 +127,7 @@ wrong_told began e sessions works at (inr (added, inl (inr (none, old)))) settle
     let low = times_all (λ id. began.last_copy < id) old.id (copies_of works) settled.new_copies old.there in
     absurd (omega (arith, low, old.given))
 wrong_told began e sessions works at (inr (added, inr (inl (inl bad)))) settled =
-    let some : Receipt = Read 0 0 0 0 in
+    let some : Receipt = Read (read_receipt 0 0 0 0) in
     bad.bad some
     (settled.receipts bad.session [] bad.session_within bad.index some bad.index_within)
 wrong_told began e sessions works at (inr (added, inr (inl (inr two)))) settled =

@@ -13,7 +13,7 @@ use Rattle.engine_calls.specs.declared.event.Event.TheVariants as event
 use Rattle.engine_calls.specs.declared.refusal.Refusal.{Refusal}
 use Rattle.engine_calls.specs.declared.refusal.Refusal.TheVariants.{OutOfMemory}
 use Rattle.engine_rules.specs.Asked.{asked}
-use Rattle.engine_rules.specs.EngineState.{EngineState, IsFit}
+use Rattle.engine_rules.specs.EngineState.{EngineState, IsFit, end}
 use Rattle.engine_rules.specs.EngineView.{EngineView}
 use Rattle.engine_rules.specs.Step.{Step, written_log_of}
 use Rattle.engine_rules.specs.Uses.{AsksStore, ForcesDevice}
@@ -62,3 +62,8 @@ pub record ForcesCommit (call : EngineCall) (txn lsn : ℕ) : Type 0 where
   pub reply : RepliesBy call (event.Commit txn) (Ok (answer.Logged lsn))
   pub there : HasAt reply.engine.after.log lsn (IsStepOf txn step.Commit)
   pub forced : lsn < reply.engine.after.forced_end
+
+-- an engine replies so to a read, by such a call, and its log ended here then
+pub record ReadsAt (call : EngineCall) (page slot lsn number : ℕ) : Type 0 where
+  pub reply : RepliesBy call (event.Read page slot) (Ok (answer.Number number))
+  pub ended : end reply.engine.before ≡ lsn

@@ -1,18 +1,31 @@
--- The receipts of steps back: of a rollback, and to a savepoint.
+-- Steps back, of a rollback and to a savepoint: what they answer, and their receipts.
 use Rattle.std.specs.Prelude.{ℕ, List, [], ◌∷◌}
+use Rattle.settlement.specs.Receipt.{step_receipt}
 use Rattle.settlement.specs.declared.receipt.Receipt.{Receipt}
 use Rattle.settlement.specs.declared.receipt.Receipt.TheVariants.{Stepped}
+use Rattle.settlement.specs.declared.receipt.StepReceipt.{StepReceipt}
+use Rattle.settlement.specs.declared.receipt.TxnStep.{TxnStep}
 use Rattle.settlement.specs.declared.receipt.TxnStep.TheVariants as step
+use Rattle.engine_calls.specs.declared.event.Answer.{Answer}
+use Rattle.engine_calls.specs.declared.event.Answer.TheVariants as answer
 use Rattle.engine_calls.specs.declared.event.SteppedBack.{SteppedBack}
 use Rattle.engine_calls.specs.declared.event.SteppedBack.TheVariants as back
-use Rattle.engine_calls.specs.declared.event.Undone.{Undone}
-use Rattle.engine_calls.specs.declared.event.Undone.TheVariants as undone
 
-abbrev pub undo_receipt : ℕ → Undone → Receipt
-undo_receipt txn (undone.Undid lsn) = Stepped lsn txn step.Comp
-undo_receipt txn (undone.Ended lsn) = Stepped lsn txn step.End
+-- a step of a rollback takes a change back, or ends its transaction
+abbrev pub IsUndoStep : TxnStep → Type 0
+IsUndoStep step.Comp = Unit {0}
+IsUndoStep step.End = Unit {0}
+IsUndoStep other = ⊥
+
+abbrev pub answer_of_step : TxnStep → ℕ → Answer
+answer_of_step step.End lsn = answer.Ended lsn
+answer_of_step other lsn = answer.Undid lsn
+
+-- what the engine answers of a step of a rollback that has this receipt
+abbrev pub undone_answer : StepReceipt → Answer
+undone_answer it = answer_of_step it.step it.lsn
 
 -- a step that reached its savepoint leaves none
 abbrev pub step_back_receipts : ℕ → SteppedBack → List Receipt
-step_back_receipts txn (back.Undid lsn) = Stepped lsn txn step.Comp ∷ []
+step_back_receipts txn (back.Undid lsn) = Stepped (step_receipt lsn txn step.Comp) ∷ []
 step_back_receipts txn back.Reached = []

@@ -8,7 +8,7 @@ ghost use Rattle.engine_rules.specs.Step.{Step, reply_of, step_back_answer, undo
 ghost use Rattle.engine_rules.specs.Uses.{AsksStore, ForcesDevice};
 ghost use Rattle.engine_calls.specs.declared.event.Answer.TheVariants as answer;
 ghost use Rattle.engine_calls.specs.declared.event.Event.TheVariants as event;
-ghost use Rattle.engine_run.specs.Replies.{ForcesCommit, MadeOn, RepliesBy};
+ghost use Rattle.engine_run.specs.Replies.{ForcesCommit, MadeOn, ReadsAt, RepliesBy};
 
 use aries_core::{Engine, Refusal, SteppedBack, Undone};
 use log_store::LogDevice;
@@ -142,6 +142,8 @@ impl<S: PageStore, D: LogDevice, G: Ledger> Held<S, D, G> {
         ensures device { self.new.engine.device ≡ self.old.engine.device }
         ensures replies { RepliesBy (MadeOn S.PageStore D.LogDevice) (event.Read page slot)
             (reply_of (λ a. answer.Number a.1) result) }
+        ensures at_once { IfOk result (λ a.
+            ReadsAt (MadeOn S.PageStore D.LogDevice) page slot a.0 a.1) }
     {
         let end = self.engine.log_end();
         let result = self.engine.read(page, slot);

@@ -42,6 +42,7 @@ pub use laws::{
 };
 pub use opened::Opened;
 pub use session::Session;
+pub use settlement::{ChangeReceipt, ReadReceipt, Receipt, StepReceipt, TxnStep};
 pub use settling::{Unsettled, settle};
 pub use shared::{MAX_SESSIONS, Shared};
 pub use work::Work;

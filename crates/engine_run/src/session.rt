@@ -7,11 +7,12 @@ ghost use Rattle.page_core.specs.declared.change.ChangeKind.TheVariants as kind;
 ghost use Rattle.settlement.specs.declared.receipt.Receipt.TheVariants.{Changed, Read, Stepped};
 ghost use Rattle.settlement.specs.declared.receipt.TxnStep.TheVariants as step;
 ghost use Rattle.settlement.specs.Counts.{changes_in};
-ghost use Rattle.engine_rules.specs.Step.{reply_of, step_back_answer, undo_answer};
+ghost use Rattle.settlement.specs.Receipt.{change_receipt, read_receipt, step_receipt};
+ghost use Rattle.engine_rules.specs.Step.{reply_of, step_back_answer};
 ghost use Rattle.engine_calls.specs.declared.event.Answer.TheVariants as answer;
 ghost use Rattle.engine_calls.specs.declared.event.Event.TheVariants as event;
-ghost use Rattle.engine_run.specs.Replies.{ForcesCommit, IsTold, MadeOn, RepliesBy};
-ghost use Rattle.engine_run.specs.Undoing.{step_back_receipts, undo_receipt};
+ghost use Rattle.engine_run.specs.Replies.{ForcesCommit, IsTold, MadeOn, ReadsAt, RepliesBy};
+ghost use Rattle.engine_run.specs.Undoing.{IsUndoStep, step_back_receipts, undone_answer};
 
 use crate::folder::Folder;
 use crate::shared::Shared;
@@ -19,7 +20,7 @@ use aries_core::{Refusal, SteppedBack, Undone};
 use log_store::LogDevice;
 use page_core::{ChangeKind, Lsn, PageNo, SlotNo, TxnNo};
 use page_store::PageStore;
-use settlement::{Receipt, TxnStep};
+use settlement::{ChangeReceipt, ReadReceipt, Receipt, StepReceipt, TxnStep};
 use std::alloc::Global;
 use std::marker::Model;
 use std::sync::Wait;
@@ -77,30 +78,25 @@ impl<G: Ledger> Session<G> {
         self.changes
     }
 
-    /// Begins a transaction, and answers its number and the LSN of its Begin. Refusals are those of
-    /// `Engine::begin`; `OutOfMemory` comes first, where there is no room for the receipt.
+    /// Begins a transaction, and answers its receipt, which names the transaction. Refusals are those
+    /// of `Engine::begin`; `OutOfMemory` comes first, where there is no room for the receipt.
     pub fn begin<S: PageStore, D: LogDevice>(
         &mut self,
         rt: &impl Wait,
         shared: &Shared<S, D, G>,
-    ) -> Result<(TxnNo, Lsn), Refusal>
-        ensures receipt { IfOk result (λ a.
-            self.new ≡ self.old ++ Stepped a.1 a.0 step.Begin ∷ []) }
+    ) -> Result<StepReceipt, Refusal>
+        ensures receipt { IfOk result (λ it. self.new ≡ self.old ++ Stepped it ∷ []) }
+        ensures names { IfOk result (λ it. it ≡ step_receipt it.lsn it.txn step.Begin) }
         ensures refused { OnErr result (self.new ≡ self.old) }
         ensures told { IsTold (MadeOn S.PageStore D.LogDevice) event.Begin
-            (reply_of (λ a. answer.Began a.0 a.1) result) }
+            (reply_of (λ it. answer.Began it.txn it.lsn) result) }
     {
         make_room(&mut self.receipts)?;
         let (txn, lsn) = shared.held.lock(rt).begin()?;
-        self.receipts.push_reserved(Receipt::Stepped {
-            lsn,
-            txn,
-            step: TxnStep::Begin,
-        });
-        Ok((txn, lsn))
+        Ok(keep_step(&mut self.receipts, lsn, txn, TxnStep::Begin))
     }
 
-    /// Puts a number into a slot, and answers the LSN of its Update. Refusals are those of
+    /// Puts a number into a slot, and answers the receipt of the change. Refusals are those of
     /// `Engine::set`; `OutOfMemory` comes first, where there is no room for the receipt.
     pub fn set<S: PageStore, D: LogDevice>(
         &mut self,
@@ -110,32 +106,33 @@ impl<G: Ledger> Session<G> {
         page: PageNo,
         slot: SlotNo,
         number: u64,
-    ) -> Result<Lsn, Refusal>
-        ensures receipt { IfOk result (λ lsn.
-            self.new ≡ self.old ++ Changed lsn txn page slot kind.Set number ∷ []) }
+    ) -> Result<ChangeReceipt, Refusal>
+        ensures receipt { IfOk result (λ it. self.new ≡ self.old ++ Changed it ∷ []) }
+        ensures names { IfOk result (λ it.
+            it ≡ change_receipt it.lsn txn page slot kind.Set number) }
         ensures refused { OnErr result (self.new ≡ self.old) }
         ensures told { IsTold (MadeOn S.PageStore D.LogDevice) (event.Set txn page slot number)
-            (reply_of answer.Logged result) }
+            (reply_of (λ it. answer.Logged it.lsn) result) }
     {
         make_room(&mut self.receipts)?;
         let lsn = shared
             .held
             .lock(rt)
             .set(txn, page, slot, number, &mut self.share)?;
-        self.receipts.push_reserved(Receipt::Changed {
+        self.changes += 1;
+        Ok(keep_change(&mut self.receipts, &ChangeReceipt {
             lsn,
             txn,
             page,
             slot,
             kind: ChangeKind::Set,
             number,
-        });
-        self.changes += 1;
-        Ok(lsn)
+        }))
     }
 
-    /// Adds to the number in a slot, modulo 2^64, and answers the LSN of its Update. Refusals are
-    /// those of `Engine::add`; `OutOfMemory` comes first, where there is no room for the receipt.
+    /// Adds to the number in a slot, modulo 2^64, and answers the receipt of the change. Refusals
+    /// are those of `Engine::add`; `OutOfMemory` comes first, where there is no room for the
+    /// receipt.
     pub fn add<S: PageStore, D: LogDevice>(
         &mut self,
         rt: &impl Wait,
@@ -144,54 +141,51 @@ impl<G: Ledger> Session<G> {
         page: PageNo,
         slot: SlotNo,
         amount: u64,
-    ) -> Result<Lsn, Refusal>
-        ensures receipt { IfOk result (λ lsn.
-            self.new ≡ self.old ++ Changed lsn txn page slot kind.Add amount ∷ []) }
+    ) -> Result<ChangeReceipt, Refusal>
+        ensures receipt { IfOk result (λ it. self.new ≡ self.old ++ Changed it ∷ []) }
+        ensures names { IfOk result (λ it.
+            it ≡ change_receipt it.lsn txn page slot kind.Add amount) }
         ensures refused { OnErr result (self.new ≡ self.old) }
         ensures told { IsTold (MadeOn S.PageStore D.LogDevice) (event.Add txn page slot amount)
-            (reply_of answer.Logged result) }
+            (reply_of (λ it. answer.Logged it.lsn) result) }
     {
         make_room(&mut self.receipts)?;
         let lsn = shared
             .held
             .lock(rt)
             .add(txn, page, slot, amount, &mut self.share)?;
-        self.receipts.push_reserved(Receipt::Changed {
+        self.changes += 1;
+        Ok(keep_change(&mut self.receipts, &ChangeReceipt {
             lsn,
             txn,
             page,
             slot,
             kind: ChangeKind::Add,
             number: amount,
-        });
-        self.changes += 1;
-        Ok(lsn)
+        }))
     }
 
-    /// The number in a slot, with the changes of all transactions so far. Refusals are those of
-    /// `Engine::read`; `OutOfMemory` comes first, where there is no room for the receipt.
+    /// The number in a slot, with the changes of all transactions so far, and where the log ended
+    /// then, by one hold. Refusals are those of `Engine::read`; `OutOfMemory` comes first, where
+    /// there is no room for the receipt.
     pub fn read<S: PageStore, D: LogDevice>(
         &mut self,
         rt: &impl Wait,
         shared: &Shared<S, D, G>,
         page: PageNo,
         slot: SlotNo,
-    ) -> Result<u64, Refusal>
-        ensures receipt { IfOk result (λ number. (end : ℕ)
-            × (self.new ≡ self.old ++ Read end page slot number ∷ [])) }
+    ) -> Result<ReadReceipt, Refusal>
+        ensures receipt { IfOk result (λ it. self.new ≡ self.old ++ Read it ∷ []) }
+        ensures names { IfOk result (λ it. it ≡ read_receipt it.end page slot it.number) }
         ensures refused { OnErr result (self.new ≡ self.old) }
         ensures told { IsTold (MadeOn S.PageStore D.LogDevice) (event.Read page slot)
-            (reply_of answer.Number result) }
+            (reply_of (λ it. answer.Number it.number) result) }
+        ensures at_once { IfOk result (λ it.
+            ReadsAt (MadeOn S.PageStore D.LogDevice) page slot it.end it.number) }
     {
         make_room(&mut self.receipts)?;
         let (end, number) = shared.held.lock(rt).read(page, slot)?;
-        self.receipts.push_reserved(Receipt::Read {
-            end,
-            page,
-            slot,
-            number,
-        });
-        Ok(number)
+        Ok(keep_read(&mut self.receipts, end, page, slot, number))
     }
 
     /// The number in a slot, as `read` tells it, without a receipt: the session stays as it is and
@@ -212,87 +206,69 @@ impl<G: Ledger> Session<G> {
         Ok(number)
     }
 
-    /// Commits a transaction, and answers the LSN of its Commit, which is forced then. Refusals are
-    /// those of `Engine::commit`; `OutOfMemory` comes first, where there is no room for the
+    /// Commits a transaction, and answers the receipt of its Commit, which is forced then. Refusals
+    /// are those of `Engine::commit`; `OutOfMemory` comes first, where there is no room for the
     /// receipt. A commit that is answered `CommitUnsure` leaves no receipt.
     pub fn commit<S: PageStore, D: LogDevice>(
         &mut self,
         rt: &impl Wait,
         shared: &Shared<S, D, G>,
         txn: TxnNo,
-    ) -> Result<Lsn, Refusal>
-        ensures receipt { IfOk result (λ lsn.
-            self.new ≡ self.old ++ Stepped lsn txn step.Commit ∷ []) }
+    ) -> Result<StepReceipt, Refusal>
+        ensures receipt { IfOk result (λ it. self.new ≡ self.old ++ Stepped it ∷ []) }
+        ensures names { IfOk result (λ it. it ≡ step_receipt it.lsn txn step.Commit) }
         ensures refused { OnErr result (self.new ≡ self.old) }
         ensures told { IsTold (MadeOn S.PageStore D.LogDevice) (event.Commit txn)
-            (reply_of answer.Logged result) }
-        ensures forced { IfOk result (ForcesCommit (MadeOn S.PageStore D.LogDevice) txn) }
+            (reply_of (λ it. answer.Logged it.lsn) result) }
+        ensures forced { IfOk result (λ it.
+            ForcesCommit (MadeOn S.PageStore D.LogDevice) txn it.lsn) }
     {
         make_room(&mut self.receipts)?;
         let lsn = shared.held.lock(rt).commit(txn)?;
-        self.receipts.push_reserved(Receipt::Stepped {
-            lsn,
-            txn,
-            step: TxnStep::Commit,
-        });
-        Ok(lsn)
+        Ok(keep_step(&mut self.receipts, lsn, txn, TxnStep::Commit))
     }
 
-    /// Begins to take the changes of a transaction back, and answers the LSN of its Abort. Refusals
-    /// are those of `Engine::abort`; `OutOfMemory` comes first, where there is no room for the
-    /// receipt.
+    /// Begins to take the changes of a transaction back, and answers the receipt of its Abort.
+    /// Refusals are those of `Engine::abort`; `OutOfMemory` comes first, where there is no room for
+    /// the receipt.
     pub fn abort<S: PageStore, D: LogDevice>(
         &mut self,
         rt: &impl Wait,
         shared: &Shared<S, D, G>,
         txn: TxnNo,
-    ) -> Result<Lsn, Refusal>
-        ensures receipt { IfOk result (λ lsn.
-            self.new ≡ self.old ++ Stepped lsn txn step.Abort ∷ []) }
+    ) -> Result<StepReceipt, Refusal>
+        ensures receipt { IfOk result (λ it. self.new ≡ self.old ++ Stepped it ∷ []) }
+        ensures names { IfOk result (λ it. it ≡ step_receipt it.lsn txn step.Abort) }
         ensures refused { OnErr result (self.new ≡ self.old) }
         ensures told { IsTold (MadeOn S.PageStore D.LogDevice) (event.Abort txn)
-            (reply_of answer.Logged result) }
+            (reply_of (λ it. answer.Logged it.lsn) result) }
     {
         make_room(&mut self.receipts)?;
         let lsn = shared.held.lock(rt).abort(txn)?;
-        self.receipts.push_reserved(Receipt::Stepped {
-            lsn,
-            txn,
-            step: TxnStep::Abort,
-        });
-        Ok(lsn)
+        Ok(keep_step(&mut self.receipts, lsn, txn, TxnStep::Abort))
     }
 
     /// Takes the last pending change of a transaction that rolls back out again, or ends it where
-    /// none is left. Refusals are those of `Engine::undo_step`; `OutOfMemory` comes first, where
-    /// there is no room for the receipt.
+    /// none is left. The receipt is of its Comp, or of its End. Refusals are those of
+    /// `Engine::undo_step`; `OutOfMemory` comes first, where there is no room for the receipt.
     pub fn undo_step<S: PageStore, D: LogDevice>(
         &mut self,
         rt: &impl Wait,
         shared: &Shared<S, D, G>,
         txn: TxnNo,
-    ) -> Result<Undone, Refusal>
-        ensures receipt { IfOk result (λ done.
-            self.new ≡ self.old ++ undo_receipt txn done ∷ []) }
+    ) -> Result<StepReceipt, Refusal>
+        ensures receipt { IfOk result (λ it. self.new ≡ self.old ++ Stepped it ∷ []) }
+        ensures names { IfOk result (λ it. (it.txn ≡ txn) × IsUndoStep it.step) }
         ensures refused { OnErr result (self.new ≡ self.old) }
         ensures told { IsTold (MadeOn S.PageStore D.LogDevice) (event.UndoStep txn)
-            (reply_of undo_answer result) }
+            (reply_of undone_answer result) }
     {
         make_room(&mut self.receipts)?;
         let done = shared.held.lock(rt).undo_step(txn)?;
-        match done {
-            Undone::Undid(lsn) => self.receipts.push_reserved(Receipt::Stepped {
-                lsn,
-                txn,
-                step: TxnStep::Comp,
-            }),
-            Undone::Ended(lsn) => self.receipts.push_reserved(Receipt::Stepped {
-                lsn,
-                txn,
-                step: TxnStep::End,
-            }),
-        }
-        Ok(done)
+        Ok(match done {
+            Undone::Undid(lsn) => keep_step(&mut self.receipts, lsn, txn, TxnStep::Comp),
+            Undone::Ended(lsn) => keep_step(&mut self.receipts, lsn, txn, TxnStep::End),
+        })
     }
 
     /// Names the place to which a transaction may go back from here on, by the LSN of its last
@@ -330,11 +306,7 @@ impl<G: Ledger> Session<G> {
         make_room(&mut self.receipts)?;
         let done = shared.held.lock(rt).undo_to(txn, savepoint)?;
         if let SteppedBack::Undid(lsn) = done {
-            self.receipts.push_reserved(Receipt::Stepped {
-                lsn,
-                txn,
-                step: TxnStep::Comp,
-            });
+            keep_step(&mut self.receipts, lsn, txn, TxnStep::Comp);
         }
         Ok(done)
     }
@@ -391,4 +363,50 @@ fn make_room(receipts: &mut Vec<Receipt>) -> Result<(), Refusal>
         return Err(Refusal::OutOfMemory);
     }
     Ok(())
+}
+
+/// Keeps the receipt of a step of a transaction, and answers it.
+fn keep_step(receipts: &mut Vec<Receipt>, lsn: Lsn, txn: TxnNo, step: TxnStep) -> StepReceipt
+    requires room { vec_len receipts.old < vec_capacity receipts.old }
+    ensures kept { receipts.new.items ≡ receipts.old.items ++ Stepped result ∷ [] }
+    ensures names { result ≡ step_receipt lsn txn step }
+{
+    receipts.push_reserved(Receipt::Stepped(StepReceipt { lsn, txn, step }));
+    StepReceipt { lsn, txn, step }
+}
+
+/// Keeps the receipt of a change, and answers it.
+fn keep_change(receipts: &mut Vec<Receipt>, receipt: &ChangeReceipt) -> ChangeReceipt
+    requires room { vec_len receipts.old < vec_capacity receipts.old }
+    ensures kept { receipts.new.items ≡ receipts.old.items ++ Changed result ∷ [] }
+    ensures names { result ≡ receipt.now }
+{
+    receipts.push_reserved(Receipt::Changed(*receipt));
+    *receipt
+}
+
+/// Keeps the receipt of a read, and answers it.
+fn keep_read(
+    receipts: &mut Vec<Receipt>,
+    end: Lsn,
+    page: PageNo,
+    slot: SlotNo,
+    number: u64,
+) -> ReadReceipt
+    requires room { vec_len receipts.old < vec_capacity receipts.old }
+    ensures kept { receipts.new.items ≡ receipts.old.items ++ Read result ∷ [] }
+    ensures names { result ≡ read_receipt end page slot number }
+{
+    receipts.push_reserved(Receipt::Read(ReadReceipt {
+        end,
+        page,
+        slot,
+        number,
+    }));
+    ReadReceipt {
+        end,
+        page,
+        slot,
+        number,
+    }
 }

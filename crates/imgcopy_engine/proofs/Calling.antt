@@ -5,15 +5,18 @@ use Rattle.std.specs.Prelude.{IsErrAnd, Result}
 use Rattle.std.specs.Fn.{Once}
 use Rattle.std.proofs.lemmas.List.{length_push}
 use Rattle.std.proofs.lemmas.List.Elements.{All-push}
+use Rattle.settlement.specs.Receipt.{step_receipt}
 use Rattle.settlement.specs.declared.receipt.Receipt.{Receipt}
 use Rattle.settlement.specs.declared.receipt.Receipt.TheVariants.{Stepped}
+use Rattle.settlement.specs.declared.receipt.StepReceipt.{StepReceipt}
+use Rattle.settlement.specs.declared.receipt.TxnStep.{TxnStep}
 use Rattle.settlement.specs.declared.receipt.TxnStep.TheVariants as step
+use Rattle.engine_calls.specs.declared.event.Answer.TheVariants as answer
+use Rattle.engine_calls.specs.declared.event.Event.TheVariants as event
 use Rattle.engine_calls.specs.declared.event.SteppedBack.{SteppedBack}
 use Rattle.engine_calls.specs.declared.event.SteppedBack.TheVariants as back
-use Rattle.engine_calls.specs.declared.event.Undone.{Undone}
-use Rattle.engine_calls.specs.declared.event.Undone.TheVariants as undone
-use Rattle.engine_run.specs.Undoing.{step_back_receipts, undo_receipt}
-use Rattle.imgcopy_engine.specs.Ending.{Goes, IsCompOf, TakesBack}
+use Rattle.engine_run.specs.Undoing.{IsUndoStep, answer_of_step, step_back_receipts, undone_answer}
+use Rattle.imgcopy_engine.specs.Ending.{Goes, IsCompOf, Steps, TakesBack, UserCall}
 use Rattle.imgcopy_engine.specs.Trying.{ReturnsWithState}
 
 -- a fault that is handed on is the one that was met
@@ -27,9 +30,9 @@ goes_on old mid new r so_far is =
 
 -- one change more is taken back
 pub took_one_more : (txn count lsn : ℕ) (old mid new : List Receipt) → TakesBack txn count old mid
-    → new ≡ mid ++ Stepped lsn txn step.Comp ∷ [] → TakesBack txn (count + 1) old new
+    → new ≡ mid ++ Stepped (step_receipt lsn txn step.Comp) ∷ [] → TakesBack txn (count + 1) old new
 took_one_more txn count lsn old mid new so_far is =
-    let comp = Stepped lsn txn step.Comp in
+    let comp = Stepped (step_receipt lsn txn step.Comp) in
     record {
       comps = so_far.comps ++ comp ∷ [];
       each = All-push (IsCompOf txn) so_far.comps comp so_far.each (lsn, refl);
@@ -37,15 +40,41 @@ took_one_more txn count lsn old mid new so_far is =
       behind = is ∙ ap (λ rs. rs ++ comp ∷ []) so_far.behind ∙ append_assoc old so_far.comps (comp ∷ []);
     }
 
--- a step of a rollback that is not its end took a change back
-pub undid : (txn : ℕ) (done : Undone) (old new : List Receipt) → ((lsn : ℕ) → ¬ (done ≡ undone.Ended lsn))
-    → new ≡ old ++ undo_receipt txn done ∷ [] → (lsn : ℕ) × (new ≡ old ++ Stepped lsn txn step.Comp ∷ [])
-undid txn (undone.Undid lsn) old new more is = (lsn, is)
-undid txn (undone.Ended lsn) old new more is = absurd (more lsn refl)
+-- the step of a rollback that a receipt is of, by its transaction
+stepped : (txn : ℕ) (it : StepReceipt) (step : TxnStep) → it.txn ≡ txn → it.step ≡ step → it ≡ step_receipt it.lsn txn step
+stepped txn it step of is = ap (λ t. step_receipt it.lsn t it.step) of ∙ ap (step_receipt it.lsn txn) is
+
+-- one that is not its end took a change back
+comp_of : (txn : ℕ) (it : StepReceipt) (kind : TxnStep) → it.step ≡ kind → IsUndoStep kind → ¬ (it.step ≡ step.End)
+    → it.txn ≡ txn → it ≡ step_receipt it.lsn txn step.Comp
+comp_of txn it step.Comp is undo more of = stepped txn it step.Comp of is
+comp_of txn it step.End is undo more of = absurd (more is)
+comp_of txn it step.Begin is undo more of = elim undo [ ]
+comp_of txn it step.Commit is undo more of = elim undo [ ]
+comp_of txn it step.Abort is undo more of = elim undo [ ]
+
+pub undid : (txn : ℕ) (it : StepReceipt) (old new : List Receipt) → ¬ (it.step ≡ step.End)
+    → (it.txn ≡ txn) × IsUndoStep it.step → new ≡ old ++ Stepped it ∷ []
+    → (lsn : ℕ) × (new ≡ old ++ Stepped (step_receipt lsn txn step.Comp) ∷ [])
+undid txn it old new more names is = (
+  it.lsn,
+  is ∙ ap (λ r. old ++ Stepped r ∷ []) (comp_of txn it it.step refl names.1 more names.0),
+)
+
+-- one that is its end has ended the transaction
+module _ {C : Type 0} (receipts : C → List Receipt) (called : UserCall C) where
+  pub ended : (txn : ℕ) (it : StepReceipt) (old new : C) → it.step ≡ step.End → it.txn ≡ txn
+      → called old (event.UndoStep txn) (Ok (undone_answer it)) new → receipts new ≡ receipts old ++ Stepped it ∷ []
+      → Steps receipts called old (event.UndoStep txn) (Ok (answer.Ended it.lsn))
+      (Stepped (step_receipt it.lsn txn step.End)) new
+  ended txn it old new is of call last = record {
+    call = subst (λ s. called old (event.UndoStep txn) (Ok (answer_of_step s it.lsn)) new) is call;
+    last = last ∙ ap (λ r. receipts old ++ Stepped r ∷ []) (stepped txn it step.End of is);
+  }
 
 -- so did a step back that has not reached its savepoint
 pub stepped_back : (txn : ℕ) (done : SteppedBack) (old new : List Receipt) → ¬ (done ≡ back.Reached)
-    → new ≡ old ++ step_back_receipts txn done → (lsn : ℕ) × (new ≡ old ++ Stepped lsn txn step.Comp ∷ [])
+    → new ≡ old ++ step_back_receipts txn done → (lsn : ℕ) × (new ≡ old ++ Stepped (step_receipt lsn txn step.Comp) ∷ [])
 stepped_back txn (back.Undid lsn) old new more is = (lsn, is)
 stepped_back txn back.Reached old new more is = absurd (more refl)
 

@@ -2,6 +2,7 @@
 use Rattle.std.specs.Prelude.{ℕ, ◌≡◌, ◌++◌, ◌∷◌, ◌⊎◌, [], List, length, Result, Ok, Err}
 use Rattle.std.specs.List.{All}
 use Rattle.log_records.specs.declared.limits.TheConstants.{MAX_RECORDS}
+use Rattle.settlement.specs.Receipt.{step_receipt}
 use Rattle.settlement.specs.declared.receipt.Receipt.{Receipt}
 use Rattle.settlement.specs.declared.receipt.Receipt.TheVariants.{Stepped}
 use Rattle.settlement.specs.declared.receipt.TxnStep.TheVariants as step
@@ -27,7 +28,7 @@ Goes old new = (more : List Receipt) × (new ≡ old ++ more)
 
 -- this receipt tells that a change of the transaction was taken back
 abbrev pub IsCompOf : ℕ → Receipt → Type 0
-IsCompOf txn receipt = (lsn : ℕ) × (receipt ≡ Stepped lsn txn step.Comp)
+IsCompOf txn receipt = (lsn : ℕ) × (receipt ≡ Stepped (step_receipt lsn txn step.Comp))
 
 -- so many changes of a transaction were taken back, and no other receipts came
 pub record TakesBack (txn count : ℕ) (old new : List Receipt) : Type 0 where
@@ -53,7 +54,8 @@ module _ {C : Type 0} (receipts : C → List Receipt) (called : UserCall C) wher
   -- a transaction is rolling back: by its Abort, or since it was before
   abbrev pub Aborts : ℕ → C → C → Type 0
   Aborts txn old new =
-      ((lsn : ℕ) × Steps old (event.Abort txn) (Ok (answer.Logged lsn)) (Stepped lsn txn step.Abort) new)
+      ((lsn : ℕ) × Steps old (event.Abort txn) (Ok (answer.Logged lsn))
+      (Stepped (step_receipt lsn txn step.Abort)) new)
       ⊎ LeavesNone old (event.Abort txn) (Err TxnRolling) new
 
   -- it is, and so many changes are taken back
@@ -68,7 +70,8 @@ module _ {C : Type 0} (receipts : C → List Receipt) (called : UserCall C) wher
     pub count : ℕ
     pub undone : C
     pub back : GoesBack txn count old undone
-    pub ends : Steps undone (event.UndoStep txn) (Ok (answer.Ended lsn)) (Stepped lsn txn step.End) new
+    pub ends : Steps undone (event.UndoStep txn) (Ok (answer.Ended lsn))
+        (Stepped (step_receipt lsn txn step.End)) new
 
   -- its rollback met this refusal: its Abort was refused, or a step back was; or more steps were made
   -- than a log may have records
@@ -115,7 +118,8 @@ module _ {C : Type 0} (receipts : C → List Receipt) (called : UserCall C) wher
   -- a transaction is committed at this LSN, and the receipt of its Commit is the last one
   abbrev pub Commits : ℕ → ℕ → C → C → Type 0
   Commits txn lsn old new =
-      Steps old (event.Commit txn) (Ok (answer.Logged lsn)) (Stepped lsn txn step.Commit) new
+      Steps old (event.Commit txn) (Ok (answer.Logged lsn))
+      (Stepped (step_receipt lsn txn step.Commit)) new
 
   -- a commit was refused, and this is told of it
   pub record EndsRefused {E : Type 0} (txn : ℕ) (old : C) (told : NotDone E) (new : C) : Type 0 where

@@ -2,6 +2,7 @@
 use Rattle.std.specs.Prelude.{ℕ, ◌≡◌, ◌+◌, ◌≤◌, ◌⊎◌, List, Result, Ok, Err}
 use Rattle.std.specs.Borrow.{MutBor}
 use Rattle.std.specs.Fn.{Once}
+use Rattle.settlement.specs.Receipt.{step_receipt}
 use Rattle.settlement.specs.declared.receipt.Receipt.{Receipt}
 use Rattle.settlement.specs.declared.receipt.Receipt.TheVariants.{Stepped}
 use Rattle.settlement.specs.declared.receipt.TxnStep.TheVariants as step
@@ -45,7 +46,7 @@ module _ {C T E F : Type 0} (receipts : C → List Receipt) (called : UserCall C
     pub lsn : ℕ
     pub begun : C
     pub begins : Steps receipts called old event.Begin (Ok (answer.Began txn lsn))
-        (Stepped lsn txn step.Begin) begun
+        (Stepped (step_receipt lsn txn step.Begin)) begun
     pub outcome : Result T (Stop E)
     pub worked : C
     pub does : works work begun txn outcome next worked

@@ -1,11 +1,12 @@
 //! A session with its engine.
 
 use crate::calls::Calls;
-use aries_core::{Refusal, SteppedBack, Undone};
+use aries_core::{Refusal, SteppedBack};
 use engine_run::{Session, Shared};
 use log_store::LogDevice;
 use page_core::{Lsn, PageNo, SlotNo, TxnNo};
 use page_store::PageStore;
+use settlement::{ChangeReceipt, ReadReceipt, StepReceipt};
 use std::sync::Wait;
 use std::sync::ledger::Ledger;
 
@@ -28,21 +29,33 @@ impl<S: PageStore, D: LogDevice, G: Ledger, R: Wait> Calls for Client<'_, S, D, 
 
     ghost told = { λ old new event reply is. is };
 
-    fn begin(&mut self) -> Result<(TxnNo, Lsn), Refusal> {
+    fn begin(&mut self) -> Result<StepReceipt, Refusal> {
         self.session.begin(self.rt, self.shared)
     }
 
-    fn set(&mut self, txn: TxnNo, page: PageNo, slot: SlotNo, number: u64) -> Result<Lsn, Refusal> {
+    fn set(
+        &mut self,
+        txn: TxnNo,
+        page: PageNo,
+        slot: SlotNo,
+        number: u64,
+    ) -> Result<ChangeReceipt, Refusal> {
         self.session
             .set(self.rt, self.shared, txn, page, slot, number)
     }
 
-    fn add(&mut self, txn: TxnNo, page: PageNo, slot: SlotNo, amount: u64) -> Result<Lsn, Refusal> {
+    fn add(
+        &mut self,
+        txn: TxnNo,
+        page: PageNo,
+        slot: SlotNo,
+        amount: u64,
+    ) -> Result<ChangeReceipt, Refusal> {
         self.session
             .add(self.rt, self.shared, txn, page, slot, amount)
     }
 
-    fn read(&mut self, page: PageNo, slot: SlotNo) -> Result<u64, Refusal> {
+    fn read(&mut self, page: PageNo, slot: SlotNo) -> Result<ReadReceipt, Refusal> {
         self.session.read(self.rt, self.shared, page, slot)
     }
 
@@ -50,15 +63,15 @@ impl<S: PageStore, D: LogDevice, G: Ledger, R: Wait> Calls for Client<'_, S, D, 
         self.session.peek(self.rt, self.shared, page, slot)
     }
 
-    fn commit(&mut self, txn: TxnNo) -> Result<Lsn, Refusal> {
+    fn commit(&mut self, txn: TxnNo) -> Result<StepReceipt, Refusal> {
         self.session.commit(self.rt, self.shared, txn)
     }
 
-    fn abort(&mut self, txn: TxnNo) -> Result<Lsn, Refusal> {
+    fn abort(&mut self, txn: TxnNo) -> Result<StepReceipt, Refusal> {
         self.session.abort(self.rt, self.shared, txn)
     }
 
-    fn undo_step(&mut self, txn: TxnNo) -> Result<Undone, Refusal> {
+    fn undo_step(&mut self, txn: TxnNo) -> Result<StepReceipt, Refusal> {
         self.session.undo_step(self.rt, self.shared, txn)
     }
 

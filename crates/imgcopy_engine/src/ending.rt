@@ -8,9 +8,10 @@ ghost use Rattle.imgcopy_engine.specs.Ending.{StepsBack};
 
 use crate::calls::Calls;
 use crate::stop::{Committed, NotDone, Stop};
-use aries_core::{Refusal, SteppedBack, Undone};
+use aries_core::{Refusal, SteppedBack};
 use log_records::MAX_RECORDS;
 use page_core::{Lsn, TxnNo};
+use settlement::TxnStep;
 
 /// Takes all changes of a transaction back and ends it, and answers the LSN of its End. It may be
 /// called again where it was refused, once something was done about that: it then goes on.
@@ -24,8 +25,9 @@ pub fn roll_back<C: Calls>(client: &mut C, txn: TxnNo) -> Result<Lsn, Refusal>
 {
     begin_rolling(client, txn)?;
     for _ in 0..MAX_RECORDS {
-        if let Undone::Ended(lsn) = client.undo_step(txn)? {
-            return Ok(lsn);
+        let undone = client.undo_step(txn)?;
+        if undone.step == TxnStep::End {
+            return Ok(undone.lsn);
         }
     }
     // No transaction has made more changes than a log has records.
@@ -90,7 +92,7 @@ fn commit<C: Calls, E: Drop>(client: &mut C, txn: TxnNo) -> Result<Lsn, NotDone<
     ensures kept { Goes (C.receipts client.old) (C.receipts client.new) }
 {
     let why = match client.commit(txn) {
-        Ok(lsn) => return Ok(lsn),
+        Ok(it) => return Ok(it.lsn),
         Err(why) => why,
     };
     match why {

@@ -67,8 +67,8 @@ fn try_once<C: Calls, T: Drop, E: Drop, F: FnMut(&mut C, TxnNo) -> Result<T, Sto
     ensures tries { Tries C.receipts C.called (CalledWithState F.FnMut) client.old work.old result
         work.new client.new }
 {
-    let (txn, _) = match client.begin() {
-        Ok(begun) => begun,
+    let txn = match client.begin() {
+        Ok(begun) => begun.txn,
         Err(why) => return Err(NotDone::NotBegun(why)),
     };
     let outcome = work(client, txn);

@@ -159,15 +159,15 @@ is_an_update txn page slot IsSuch other is = elim is [ ]
 
 stands_update : (rs : List Record) (forced_end : ℕ) (before : List Receipt) (x : Receipt)
     → Stands rs forced_end before x → is_change x ≡ true → IsUpdateAt rs (position x)
-stands_update rs forced_end before (Changed lsn txn page slot kind number) stands is =
-    let logged : IsLogged rs forced_end (Changed lsn txn page slot kind number) = stands.holds in
+stands_update rs forced_end before (Changed it) stands is =
+    let logged : IsLogged rs forced_end (Changed it) = stands.holds in
     let there = logged.there in
     let at =
-    here_is rs there.0 (IsRecordOf (Changed lsn txn page slot kind number))
-    (is_an_update txn page slot (IsChangeOf kind number)) there.2 in
+    here_is rs there.0 (IsRecordOf (Changed it))
+    (is_an_update it.txn it.page it.slot (IsChangeOf it.kind it.number)) there.2 in
     (there.0, there.1, at.0, at.1)
-stands_update rs forced_end before (Stepped lsn txn step) stands is = cc
-stands_update rs forced_end before (Read end page slot number) stands is = cc
+stands_update rs forced_end before (Stepped it) stands is = cc
+stands_update rs forced_end before (Read it) stands is = cc
 
 changed_at : (P : ℕ → Type 0) (x : Receipt) (xs : List Receipt) (b : Bool) → is_change x ≡ b
     → (is_change x ≡ true → P (position x)) → All P (changed xs)
@@ -204,16 +204,16 @@ length-changed xs = length-map (filter is_change xs) position ∙ length-filter 
 
 changed_among : (lsn : ℕ) (xs : List Receipt) → times lsn (changed xs) ≤ times lsn (written xs)
 changed_among lsn [] = omega arith
-changed_among lsn (Changed at txn page slot kind number ∷ xs) =
+changed_among lsn (Changed it ∷ xs) =
     let rest = changed_among lsn xs in
-    let one = times-cons lsn at (changed xs) in
-    let other = times-cons lsn at (written xs) in
+    let one = times-cons lsn it.lsn (changed xs) in
+    let other = times-cons lsn it.lsn (written xs) in
     omega arith
-changed_among lsn (Stepped at txn step ∷ xs) =
+changed_among lsn (Stepped it ∷ xs) =
     let rest = changed_among lsn xs in
-    let other = times-cons lsn at (written xs) in
+    let other = times-cons lsn it.lsn (written xs) in
     omega arith
-changed_among lsn (Read end page slot number ∷ xs) = changed_among lsn xs
+changed_among lsn (Read it ∷ xs) = changed_among lsn xs
 
 few_changed : (rs : List Record) (sessions : List (List Receipt))
     → All (IsUpdateAt rs) (changed (all_receipts sessions))
@@ -237,12 +237,12 @@ few_changed rs sessions all apart i d within =
 -- what holds of the LSN of each record that receipts are of holds of those of changes
 changed_of_written : (P : ℕ → Type 0) (xs : List Receipt) → All P (written xs) → All P (changed xs)
 changed_of_written P [] all = All-nil P
-changed_of_written P (Changed at txn page slot kind number ∷ xs) all =
-    All-cons P at (changed xs) (All-head P at (written xs) all)
-    (changed_of_written P xs (All-tail P at (written xs) all))
-changed_of_written P (Stepped at txn step ∷ xs) all =
-    changed_of_written P xs (All-tail P at (written xs) all)
-changed_of_written P (Read end page slot number ∷ xs) all = changed_of_written P xs all
+changed_of_written P (Changed it ∷ xs) all =
+    All-cons P it.lsn (changed xs) (All-head P it.lsn (written xs) all)
+    (changed_of_written P xs (All-tail P it.lsn (written xs) all))
+changed_of_written P (Stepped it ∷ xs) all =
+    changed_of_written P xs (All-tail P it.lsn (written xs) all)
+changed_of_written P (Read it ∷ xs) all = changed_of_written P xs all
 
 -- the changes of a log are those of its first records, and the others
 pub updates_split : (b : ℕ) (rs : List Record)

@@ -5,11 +5,12 @@ use Rattle.std.specs.List.{All}
 use Rattle.std.proofs.lemmas.List.{get_or-take, length-take-le}
 use Rattle.log_records.specs.declared.record.Record.{Record}
 use Rattle.log_records.specs.Log.{IsLog, Log, lsn_of}
-use Rattle.settlement.specs.Receipt.{ComesBehind, HasAt, HoldsIn, IsLogged, IsRecordOf}
+use Rattle.settlement.specs.Receipt.{ComesBehind, HasAt, HoldsIn, IsLogged, IsRecordOf, IsStepOf}
 use Rattle.settlement.specs.Receipt.{below, is_read, position}
 use Rattle.settlement.specs.Session.{AllStand}
 use Rattle.settlement.specs.Sessions.{IsCommitIn}
 use Rattle.settlement.specs.declared.receipt.Receipt.{Receipt}
+use Rattle.settlement.specs.declared.receipt.StepReceipt.{StepReceipt}
 use Rattle.settlement.specs.declared.receipt.Receipt.TheVariants.{Changed, Stepped, Read}
 use Rattle.settlement.specs.declared.receipt.TxnStep.TheVariants as step
 use Rattle.settlement.proofs.Below.{below_is}
@@ -21,30 +22,25 @@ get_first [] (suc n) i within = refl
 get_first (x ∷ xs) (suc n) zero within = refl
 get_first (x ∷ xs) (suc n) (suc i) within = get_first xs n i (omega arith)
 
-commit_at : (rs : List Record) (forced_end count lsn txn : ℕ) → forced_end ≤ lsn_of count
-    → IsLogged rs forced_end (Stepped lsn txn step.Commit)
-    → IsCommitIn (take count rs) (Stepped lsn txn step.Commit)
-commit_at rs forced_end count lsn txn all logged =
+commit_at : (rs : List Record) (forced_end count : ℕ) (it : StepReceipt) → forced_end ≤ lsn_of count
+    → IsLogged rs forced_end (Stepped it) → it.step ≡ step.Commit
+    → HasAt (take count rs) it.lsn (IsStepOf it.txn it.step)
+commit_at rs forced_end count it all logged is =
     let there = logged.there in
     let at = there.1 in
-    let forced = logged.forced in
+    let forced = logged.forced is in
     let within : there.0 < count = omega arith in (
       there.0,
       at,
-      subst (λ (o : Option Record). IsSomeAnd o (IsRecordOf (Stepped lsn txn step.Commit)))
+      subst (λ (o : Option Record). IsSomeAnd o (IsRecordOf (Stepped it)))
           (sym (get_first rs count there.0 within)) there.2,
     )
 
 commit_kept : (rs : List Record) (forced_end count : ℕ) (x : Receipt) → forced_end ≤ lsn_of count
     → HoldsIn rs forced_end x → IsCommitIn (take count rs) x
-commit_kept rs forced_end count (Changed lsn txn page slot kind number) all holds = tt
-commit_kept rs forced_end count (Read end page slot number) all holds = tt
-commit_kept rs forced_end count (Stepped lsn txn step.Commit) all holds =
-    commit_at rs forced_end count lsn txn all holds
-commit_kept rs forced_end count (Stepped lsn txn step.Begin) all holds = tt
-commit_kept rs forced_end count (Stepped lsn txn step.Abort) all holds = tt
-commit_kept rs forced_end count (Stepped lsn txn step.Comp) all holds = tt
-commit_kept rs forced_end count (Stepped lsn txn step.End) all holds = tt
+commit_kept rs forced_end count (Changed it) all holds = tt
+commit_kept rs forced_end count (Read it) all holds = tt
+commit_kept rs forced_end count (Stepped it) all holds = λ is. commit_at rs forced_end count it all holds is
 
 pub commits_kept : (rs : List Record) (forced_end count : ℕ) (xs : List Receipt)
     → forced_end ≤ lsn_of count → AllStand rs forced_end xs → All (IsCommitIn (take count rs)) xs
@@ -55,9 +51,9 @@ commits_kept rs forced_end count xs all stand k d within =
 
 logged_of : (rs : List Record) (forced_end : ℕ) (x : Receipt) → is_read x ≡ false
     → HoldsIn rs forced_end x → IsLogged rs forced_end x
-logged_of rs forced_end (Changed lsn txn page slot kind number) is holds = holds
-logged_of rs forced_end (Stepped lsn txn step) is holds = holds
-logged_of rs forced_end (Read end page slot number) is holds = cc
+logged_of rs forced_end (Changed it) is holds = holds
+logged_of rs forced_end (Stepped it) is holds = holds
+logged_of rs forced_end (Read it) is holds = cc
 
 inside : (rs : List Record) (i : ℕ) (P : Record → Type 0) → IsSomeAnd (slice_get rs i) P
     → i < length rs

@@ -23,7 +23,7 @@ abbrev pub updates_in : List Record → ℕ
 updates_in rs = count_by is_update rs
 
 abbrev pub is_change : Receipt → Bool
-is_change (Changed lsn txn page slot kind number) = true
+is_change (Changed it) = true
 is_change other = false
 
 -- how many of the receipts are of changes

@@ -13,20 +13,44 @@ use Rattle.log_records.specs.Log.{lsn_of}
 use Rattle.log_records.specs.Record.{own_lsn}
 use Rattle.log_rules.specs.Linked.{number_in}
 use Rattle.log_rules.specs.Transactions.{txn_of}
+use Rattle.settlement.specs.declared.receipt.ChangeReceipt.{ChangeReceipt}
+use Rattle.settlement.specs.declared.receipt.ReadReceipt.{ReadReceipt}
 use Rattle.settlement.specs.declared.receipt.Receipt.{Receipt}
 use Rattle.settlement.specs.declared.receipt.Receipt.TheVariants.{Changed, Stepped, Read}
+use Rattle.settlement.specs.declared.receipt.StepReceipt.{StepReceipt}
 use Rattle.settlement.specs.declared.receipt.TxnStep.{TxnStep}
 use Rattle.settlement.specs.declared.receipt.TxnStep.TheVariants as step
 
+abbrev pub change_receipt : ℕ → ℕ → ℕ → ℕ → ChangeKind → ℕ → ChangeReceipt
+change_receipt lsn txn page slot kind number = record {
+  lsn = lsn;
+  txn = txn;
+  page = page;
+  slot = slot;
+  kind = kind;
+  number = number;
+}
+
+abbrev pub step_receipt : ℕ → ℕ → TxnStep → StepReceipt
+step_receipt lsn txn step = record { lsn = lsn; txn = txn; step = step }
+
+abbrev pub read_receipt : ℕ → ℕ → ℕ → ℕ → ReadReceipt
+read_receipt end page slot number = record {
+  end = end;
+  page = page;
+  slot = slot;
+  number = number;
+}
+
 -- where the log shows it: the LSN of its record, or the log's end at the read
 abbrev pub position : Receipt → ℕ
-position (Changed lsn txn page slot kind number) = lsn
-position (Stepped lsn txn step) = lsn
-position (Read end page slot number) = end
+position (Changed it) = it.lsn
+position (Stepped it) = it.lsn
+position (Read it) = it.end
 
 -- a read leaves no record
 abbrev pub is_read : Receipt → Bool
-is_read (Read end page slot number) = true
+is_read (Read it) = true
 is_read other = false
 
 -- the number that a change sets or adds
@@ -74,10 +98,9 @@ IsUpdateOf txn page slot IsSuch (log.Extend lsn pages) = ⊥
 
 -- the record is the one that the receipt speaks of
 abbrev pub IsRecordOf : Receipt → Record → Type 0
-IsRecordOf (Changed lsn txn page slot kind number) r =
-    IsUpdateOf txn page slot (IsChangeOf kind number) r
-IsRecordOf (Stepped lsn txn step) r = IsStepOf txn step r
-IsRecordOf (Read end page slot number) r = ⊥
+IsRecordOf (Changed it) r = IsUpdateOf it.txn it.page it.slot (IsChangeOf it.kind it.number) r
+IsRecordOf (Stepped it) r = IsStepOf it.txn it.step r
+IsRecordOf (Read it) r = ⊥
 
 -- the log has such a record at this LSN
 abbrev pub HasAt : List Record → ℕ → (Record → Type 0) → Type 0
@@ -89,7 +112,7 @@ below rs lsn = filter (λ r. nat_lt (own_lsn r) lsn) rs
 
 -- a Commit that was answered is forced
 abbrev pub IsForced : ℕ → Receipt → Type 0
-IsForced forced_end (Stepped lsn txn step.Commit) = lsn < forced_end
+IsForced forced_end (Stepped it) = it.step ≡ step.Commit → it.lsn < forced_end
 IsForced forced_end other = Unit {0}
 
 -- the record of a receipt stands in the log
@@ -104,12 +127,12 @@ pub record WasRead (rs : List Record) (end page slot number : ℕ) : Type 0 wher
 
 -- where the receipt is of a read, the log shows what it read
 abbrev pub HoldsAsRead : List Record → Receipt → Type 0
-HoldsAsRead rs (Read end page slot number) = WasRead rs end page slot number
+HoldsAsRead rs (Read it) = WasRead rs it.end it.page it.slot it.number
 HoldsAsRead rs other = Unit {0}
 
 -- what the receipt says is so in a log
 abbrev pub HoldsIn : List Record → ℕ → Receipt → Type 0
-HoldsIn rs forced_end (Read end page slot number) = WasRead rs end page slot number
+HoldsIn rs forced_end (Read it) = WasRead rs it.end it.page it.slot it.number
 HoldsIn rs forced_end receipt = IsLogged rs forced_end receipt
 
 -- a receipt may come behind another one of its session: it is not below that one, and above its

@@ -19,7 +19,7 @@ changed receipts = map position (filter is_change receipts)
 
 -- where the receipt is of a commit, the log has its record
 abbrev pub IsCommitIn : List Record → Receipt → Type 0
-IsCommitIn rs (Stepped lsn txn step.Commit) = HasAt rs lsn (IsStepOf txn step.Commit)
+IsCommitIn rs (Stepped it) = it.step ≡ step.Commit → HasAt rs it.lsn (IsStepOf it.txn it.step)
 IsCommitIn rs other = Unit {0}
 
 -- no number is there twice

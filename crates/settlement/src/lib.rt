@@ -16,5 +16,5 @@ pub use counted_log::CountedLog;
 pub use marks::mark_records;
 pub use order::check_order;
 pub use reads::check_reads;
-pub use receipt::{Receipt, TxnStep};
+pub use receipt::{ChangeReceipt, ReadReceipt, Receipt, StepReceipt, TxnStep};
 pub use session_check::check_session;

@@ -6,11 +6,12 @@ ghost use Rattle.std.specs.Prelude.{◌++◌, List};
 ghost use Rattle.std.specs.Prelude.{IfSome, OnErr, OnOk, slice_index_or, slice_set};
 ghost use Rattle.log_records.specs.Log.{lsn_of};
 ghost use Rattle.settlement.specs.Receipt.{IsChangeOf, IsForced, IsLogged, IsRecordOf, IsStepOf};
+ghost use Rattle.settlement.specs.Receipt.{IsUpdateOf};
 ghost use Rattle.settlement.specs.Receipt.{is_read, position, written};
 ghost use Rattle.settlement.specs.Marks.{AreLogged, AreMarked, IsUnlogged};
 ghost use Rattle.settlement.specs.declared.receipt.Receipt.{Receipt};
 
-use crate::receipt::{Receipt, TxnStep};
+use crate::receipt::{ChangeReceipt, Receipt, TxnStep};
 use log_records::{MAX_RECORDS, Record};
 use page_core::{Change, ChangeKind, LSN_STEP, Lsn, TxnNo};
 
@@ -91,25 +92,36 @@ fn is_record_of(receipt: &Receipt, record: &Record) -> bool
     ensures no { result ≡ false → ¬ IsRecordOf receipt.now «record».now }
 {
     match *receipt {
-        Receipt::Changed {
-            txn,
-            page,
-            slot,
-            kind,
-            number,
+        Receipt::Changed(it) => is_update_of(&it, record),
+        Receipt::Stepped(it) => is_step_of(it.txn, it.step, record),
+        Receipt::Read(_) => false,
+    }
+}
+
+/// Whether a record is the Update that a receipt speaks of.
+fn is_update_of(receipt: &ChangeReceipt, record: &Record) -> bool
+    ensures yes { result ≡ true → IsUpdateOf receipt.now.txn receipt.now.page receipt.now.slot
+        (IsChangeOf receipt.now.kind receipt.now.number) «record».now }
+    ensures no { result ≡ false → ¬ IsUpdateOf receipt.now.txn receipt.now.page receipt.now.slot
+        (IsChangeOf receipt.now.kind receipt.now.number) «record».now }
+{
+    let ChangeReceipt {
+        txn,
+        page,
+        slot,
+        kind,
+        number,
+        ..
+    } = *receipt;
+    match *record {
+        Record::Update {
+            txn: t,
+            page: p,
+            slot: s,
+            change,
             ..
-        } => match *record {
-            Record::Update {
-                txn: t,
-                page: p,
-                slot: s,
-                change,
-                ..
-            } => t == txn && p == page && s == slot && is_change_of(kind, number, &change),
-            _ => false,
-        },
-        Receipt::Stepped { txn, step, .. } => is_step_of(txn, step, record),
-        Receipt::Read { .. } => false,
+        } => t == txn && p == page && s == slot && is_change_of(kind, number, &change),
+        _ => false,
     }
 }
 
@@ -146,11 +158,7 @@ fn is_forced(forced_end: Lsn, receipt: &Receipt) -> bool
     ensures no { result ≡ false → ¬ IsForced forced_end receipt.now }
 {
     match *receipt {
-        Receipt::Stepped {
-            lsn,
-            step: TxnStep::Commit,
-            ..
-        } => lsn < forced_end,
+        Receipt::Stepped(it) => it.step != TxnStep::Commit || it.lsn < forced_end,
         _ => true,
     }
 }

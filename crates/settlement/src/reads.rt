@@ -13,7 +13,7 @@ ghost use Rattle.settlement.specs.Receipt.{AreInOrder, HoldsAsRead, WasRead, bel
 ghost use Rattle.settlement.specs.Volume.{AreOfVolume};
 ghost use Rattle.settlement.specs.declared.receipt.Receipt.{Receipt};
 
-use crate::receipt::Receipt;
+use crate::receipt::{ReadReceipt, Receipt};
 use log_records::{Record, redo_on_its_page};
 use page_core::{LSN_STEP, Lsn, Page, PageNo, SLOTS, SlotNo};
 
@@ -57,15 +57,15 @@ fn check_read(
         × (¬ HoldsAsRead records.now receipt.now)) }
     ensures same_length { length pages.new ≡ length pages.old }
 {
-    let Receipt::Read {
+    let Receipt::Read(read) = *receipt else {
+        return Ok(redone);
+    };
+    let ReadReceipt {
         end,
         page,
         slot,
         number,
-    } = *receipt
-    else {
-        return Ok(redone);
-    };
+    } = read;
     let count = redo_below(pages, records, redone, end);
     if end.0 > LSN_STEP * (records.len() as u64 + 1) {
         return Err(end);

@@ -1,4 +1,4 @@
-//! The receipt that a session keeps for each call that was answered.
+//! The receipt of each call of a session that was answered.
 
 use page_core::{ChangeKind, Lsn, PageNo, SlotNo, TxnNo};
 
@@ -17,31 +17,41 @@ pub enum TxnStep {
     End,
 }
 
-/// What a session keeps of a call that was answered: the call, and where the log shows it.
+/// The receipt of a change. `number` was set or added, as `kind` says, and the Update stands at
+/// `lsn`.
+#[derive(Clone, Copy, Debug, PartialEq, Eq)]
+pub struct ChangeReceipt {
+    pub lsn: Lsn,
+    pub txn: TxnNo,
+    pub page: PageNo,
+    pub slot: SlotNo,
+    pub kind: ChangeKind,
+    pub number: u64,
+}
+
+/// The receipt of a begin, commit, abort or undo step. The record of this kind stands at `lsn`.
+#[derive(Clone, Copy, Debug, PartialEq, Eq)]
+pub struct StepReceipt {
+    pub lsn: Lsn,
+    pub txn: TxnNo,
+    pub step: TxnStep,
+}
+
+/// The receipt of a read. The slot had `number` when the log ended at `end`.
+#[derive(Clone, Copy, Debug, PartialEq, Eq)]
+pub struct ReadReceipt {
+    pub end: Lsn,
+    pub page: PageNo,
+    pub slot: SlotNo,
+    pub number: u64,
+}
+
+/// What a session is answered and keeps of a call: the call, and where the log shows it.
 #[derive(Clone, Copy, Debug, PartialEq, Eq)]
 pub enum Receipt {
-    /// A change. `number` was set or added, as `kind` says, and the Update stands at `lsn`.
-    Changed {
-        lsn: Lsn,
-        txn: TxnNo,
-        page: PageNo,
-        slot: SlotNo,
-        kind: ChangeKind,
-        number: u64,
-    },
-    /// A begin, commit, abort or undo step. The record of this kind stands at `lsn`.
-    Stepped {
-        lsn: Lsn,
-        txn: TxnNo,
-        step: TxnStep,
-    },
-    /// A read. It answered `number` when the log ended at `end`.
-    Read {
-        end: Lsn,
-        page: PageNo,
-        slot: SlotNo,
-        number: u64,
-    },
+    Changed(ChangeReceipt),
+    Stepped(StepReceipt),
+    Read(ReadReceipt),
 }
 
 impl Receipt {
@@ -53,8 +63,9 @@ impl Receipt {
         ensures { result ≡ position self.now }
     {
         match *self {
-            Receipt::Changed { lsn, .. } | Receipt::Stepped { lsn, .. } => lsn,
-            Receipt::Read { end, .. } => end,
+            Receipt::Changed(it) => it.lsn,
+            Receipt::Stepped(it) => it.lsn,
+            Receipt::Read(it) => it.end,
         }
     }
 
@@ -62,6 +73,6 @@ impl Receipt {
     pub fn is_read(&self) -> bool
         ensures { result ≡ is_read self.now }
     {
-        matches!(self, Receipt::Read { .. })
+        matches!(self, Receipt::Read(_))
     }
 }

@@ -87,7 +87,7 @@ fn change_and_store<G: Ledger>(
 ) {
     session.begin(rt, shared).expect(rt, "begin");
     let changed = session.set(rt, shared, TxnNo(1), PageNo(0), SlotNo(0), 5);
-    assert_eq!(rt; changed, Ok(Lsn(256)));
+    assert_eq!(rt; changed.map(|it| it.lsn), Ok(Lsn(256)));
     assert_eq!(rt; shared.flush_pass(rt, &OpenGate), Ok(()));
 }
 

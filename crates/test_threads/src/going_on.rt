@@ -58,9 +58,11 @@ fn go_on_in<G: Ledger>(
     assert_eq!(rt; shared.began().records, 3);
     assert_eq!(rt; shared.began().last_copy, 0);
     let mut session = new_session(rt, shared);
-    assert_eq!(rt; session.read(rt, shared, PageNo(0), SlotNo(0)), Ok(5));
+    let read = session.read(rt, shared, PageNo(0), SlotNo(0));
+    assert_eq!(rt; read.map(|it| it.number), Ok(5));
     add_one(rt, shared, &mut session, PageNo(0));
-    assert_eq!(rt; session.read(rt, shared, PageNo(0), SlotNo(0)), Ok(6));
+    let read = session.read(rt, shared, PageNo(0), SlotNo(0));
+    assert_eq!(rt; read.map(|it| it.number), Ok(6));
     session
 }
 

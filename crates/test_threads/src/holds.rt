@@ -30,7 +30,7 @@ fn volume_of_one<G: Ledger, R: Wait + Abort + AllocGlobal>(
     let mut shared = volume::<G, R>(rt, blank, 1);
     let mut session = new_session(rt, &mut shared);
     let begun = session.begin(rt, &shared);
-    assert_eq!(rt; begun, Ok((TxnNo(1), Lsn(64))));
+    assert_eq!(rt; begun.map(|it| (it.txn, it.lsn)), Ok((TxnNo(1), Lsn(64))));
     (shared, session)
 }
 
@@ -56,7 +56,8 @@ fn set<G: Ledger>(
     session: &mut Session<G>,
     number: u64,
 ) -> Result<Lsn, Refusal> {
-    session.set(rt, shared, TxnNo(1), PAGE, SlotNo(0), number)
+    let changed = session.set(rt, shared, TxnNo(1), PAGE, SlotNo(0), number)?;
+    Ok(changed.lsn)
 }
 
 /// Sets the first slot of the page while a hold waits at the gate.
@@ -190,7 +191,7 @@ fn grow_at_gate<G: Ledger>(
     let changed = session.set(rt, shared, TxnNo(1), page, SlotNo(0), 5);
     gate.open();
     assert_eq!(rt; grown, Ok(Lsn(128)));
-    assert_eq!(rt; changed, Ok(Lsn(192)));
+    assert_eq!(rt; changed.map(|it| it.lsn), Ok(Lsn(192)));
 }
 
 /// A page that is added during a flush pass has its turn in it: a checkpoint finds none dirty.

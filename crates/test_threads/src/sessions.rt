@@ -3,10 +3,10 @@
 ghost use Rattle.std.specs.Prelude.{◌≡◌, ◌≤◌};
 
 use crate::volume::{Volume, add_one, full_copy, new_session, settled, volume};
-use aries_core::{Refusal, SteppedBack, Undone};
+use aries_core::{Refusal, SteppedBack};
 use copy_coverage::Retired;
 use copy_vault::{CopyId, CopyKind};
-use engine_run::{OpenGate, Session, Work};
+use engine_run::{OpenGate, Session, TxnStep, Work};
 use fuzzy_ckpt::Point;
 use log_records::Record;
 use loser_undo::{Redone, undo_all};
@@ -47,7 +47,7 @@ fn work<G: Ledger>(
     goes_back: bool,
 ) {
     for round in 1..=50u64 {
-        let (txn, _) = session.begin(rt, shared).expect(rt, "begin");
+        let txn = session.begin(rt, shared).expect(rt, "begin").txn;
         session
             .add(rt, shared, txn, PageNo(7), SlotNo(0), 1)
             .expect(rt, "add");
@@ -58,7 +58,7 @@ fn work<G: Ledger>(
             .set(rt, shared, txn, own, SlotNo(1), round)
             .expect(rt, "set");
         let read = session.read(rt, shared, own, SlotNo(1)).expect(rt, "read");
-        assert_eq!(rt; read, round);
+        assert_eq!(rt; read.number, round);
         session.commit(rt, shared, txn).expect(rt, "commit");
     }
 }
@@ -100,16 +100,17 @@ fn roll_back<G: Ledger>(
     shared: &Volume<G>,
     session: &mut Session<G>,
 ) -> TxnNo {
-    let (txn, _) = session.begin(rt, shared).expect(rt, "begin");
+    let txn = session.begin(rt, shared).expect(rt, "begin").txn;
     session
         .set(rt, shared, txn, PageNo(6), SlotNo(0), 9)
         .expect(rt, "set");
     session.abort(rt, shared, txn).expect(rt, "abort");
     let first = session.undo_step(rt, shared, txn);
-    assert!(rt; matches!(first, Ok(Undone::Undid(_))));
+    assert_eq!(rt; first.map(|it| it.step), Ok(TxnStep::Comp));
     let last = session.undo_step(rt, shared, txn);
-    assert!(rt; matches!(last, Ok(Undone::Ended(_))));
-    assert_eq!(rt; session.read(rt, shared, PageNo(6), SlotNo(0)), Ok(0));
+    assert_eq!(rt; last.map(|it| it.step), Ok(TxnStep::End));
+    let read = session.read(rt, shared, PageNo(6), SlotNo(0));
+    assert_eq!(rt; read.map(|it| it.number), Ok(0));
     txn
 }
 
@@ -236,7 +237,8 @@ fn end_the_day<G: Ledger>(
     let Some(fifth) = workers.last_mut() else {
         panic!(rt; "five sessions");
     };
-    assert_eq!(rt; fifth.read(rt, shared, PageNo(7), SlotNo(0)), Ok(200));
+    let read = fifth.read(rt, shared, PageNo(7), SlotNo(0));
+    assert_eq!(rt; read.map(|it| it.number), Ok(200));
     let _ = roll_back(rt, shared, fifth);
     shared.flush_pass(rt, &OpenGate).expect(rt, "flush");
 }
@@ -384,7 +386,8 @@ fn read_again<G: Ledger, R: Wait + Abort + AllocGlobal>(rt: &R, blank: Blank)
     let mut reader = new_session(rt, &mut shared);
     let mut writer = new_session(rt, &mut shared);
     for sum in 0..3u64 {
-        assert_eq!(rt; reader.read(rt, &shared, PageNo(0), SlotNo(0)), Ok(sum));
+        let read = reader.read(rt, &shared, PageNo(0), SlotNo(0));
+        assert_eq!(rt; read.map(|it| it.number), Ok(sum));
         add_one(rt, &shared, &mut writer, PageNo(0));
     }
     let txn = roll_back(rt, &shared, &mut writer);

@@ -76,7 +76,8 @@ fn leave_one_out<G: Ledger, R: Wait + Abort + AllocGlobal>(rt: &R, blank: Blank)
     let (shared, first, mut second) = engine_for_two::<G, R>(rt, blank);
     let run = (only(rt, first), shared);
     let (mut sessions, shared) = assert_refused(rt, run, &[first_point(8)], "E28 Unsettled 0");
-    assert_eq!(rt; second.read(rt, &shared, PageNo(0), SlotNo(0)), Ok(2));
+    let read = second.read(rt, &shared, PageNo(0), SlotNo(0));
+    assert_eq!(rt; read.map(|it| it.number), Ok(2));
     sessions.push(second).expect(rt, "memory for a list");
     let _ = settled(rt, sessions, &[first_point(8)], shared);
 }

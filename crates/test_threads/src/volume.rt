@@ -94,7 +94,7 @@ pub(crate) fn add_one<G: Ledger>(
     session: &mut Session<G>,
     page: PageNo,
 ) {
-    let (txn, _) = session.begin(rt, shared).expect(rt, "begin");
+    let txn = session.begin(rt, shared).expect(rt, "begin").txn;
     session
         .add(rt, shared, txn, page, SlotNo(0), 1)
         .expect(rt, "add");

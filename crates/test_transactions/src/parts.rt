@@ -18,9 +18,10 @@ const FIRST: TxnNo = TxnNo(1);
 
 /// Begins transaction 1, and sets slot 0 to 1: the records 64 and 128.
 fn begin<G: Ledger, R: Wait + Abort>(client: &mut User<'_, G, R>) {
-    assert_eq!(client.rt; client.begin(), Ok((FIRST, Lsn(64))));
+    let begun = client.begin();
+    assert_eq!(client.rt; begun.map(|it| (it.txn, it.lsn)), Ok((FIRST, Lsn(64))));
     let set = client.set(FIRST, PAGE, SlotNo(0), 1);
-    assert_eq!(client.rt; set, Ok(Lsn(128)));
+    assert_eq!(client.rt; set.map(|it| it.lsn), Ok(Lsn(128)));
 }
 
 /// Asserts which numbers the first slots have.
@@ -71,8 +72,9 @@ fn stop_a_part<G: Ledger, R: Wait + Abort + AllocGlobal>(rt: &R, blank: Blank)
     let told = set_both(&mut client, FIRST, Err(Stop::Own(7)));
     assert_eq!(rt; told, Err(NotDone::Stopped(Stop::Own(7))));
     assert_slots(&client, [1, 0, 0]);
-    assert_eq!(rt; client.set(FIRST, PAGE, SlotNo(2), 2), Ok(Lsn(448)));
-    assert_eq!(rt; client.commit(FIRST), Ok(Lsn(512)));
+    let set = client.set(FIRST, PAGE, SlotNo(2), 2);
+    assert_eq!(rt; set.map(|it| it.lsn), Ok(Lsn(448)));
+    assert_eq!(rt; client.commit(FIRST).map(|it| it.lsn), Ok(Lsn(512)));
     assert_slots(&client, [1, 0, 2]);
     let [begun, before, first, second] = receipts_of_both();
     let receipts = [
@@ -148,10 +150,13 @@ fn go_back<G: Ledger, R: Wait + Abort + AllocGlobal>(rt: &R, blank: Blank)
     };
     begin(&mut client);
     assert_eq!(rt; client.savepoint(FIRST), Ok(Lsn(128)));
-    assert_eq!(rt; client.set(FIRST, PAGE, SlotNo(0), 5), Ok(Lsn(192)));
+    let set = client.set(FIRST, PAGE, SlotNo(0), 5);
+    assert_eq!(rt; set.map(|it| it.lsn), Ok(Lsn(192)));
     assert_eq!(rt; client.savepoint(FIRST), Ok(Lsn(192)));
-    assert_eq!(rt; client.set(FIRST, PAGE, SlotNo(1), 6), Ok(Lsn(256)));
-    assert_eq!(rt; client.set(FIRST, PAGE, SlotNo(2), 7), Ok(Lsn(320)));
+    let set = client.set(FIRST, PAGE, SlotNo(1), 6);
+    assert_eq!(rt; set.map(|it| it.lsn), Ok(Lsn(256)));
+    let set = client.set(FIRST, PAGE, SlotNo(2), 7);
+    assert_eq!(rt; set.map(|it| it.lsn), Ok(Lsn(320)));
     assert_eq!(rt; step_back(&mut client, FIRST, Lsn(192)), Ok(()));
     assert_slots(&client, [5, 0, 0]);
     assert_eq!(rt; client.session.receipts().len(), 7);

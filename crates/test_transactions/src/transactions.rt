@@ -23,9 +23,10 @@ fn hold<G: Ledger, R: Wait + Abort>(
     shared: &Volume<MemDevice, G>,
     holder: &mut Session<G>,
 ) {
-    assert_eq!(rt; holder.begin(rt, shared), Ok((TxnNo(1), Lsn(64))));
+    let begun = holder.begin(rt, shared);
+    assert_eq!(rt; begun.map(|it| (it.txn, it.lsn)), Ok((TxnNo(1), Lsn(64))));
     let set = holder.set(rt, shared, TxnNo(1), PAGE, SlotNo(0), 7);
-    assert_eq!(rt; set, Ok(Lsn(128)));
+    assert_eq!(rt; set.map(|it| it.lsn), Ok(Lsn(128)));
 }
 
 /// Sets slot 0 to 8, and answers at which try. The holder commits before the try of this number.

@@ -3,8 +3,8 @@
 ghost use Rattle.std.specs.Prelude.{◌≡◌};
 
 use imgcopy_engine::{
-    ChangeKind, LogDevice, Lsn, MAX_SESSIONS, MemDevice, MemStore, PageNo, Receipt, Session, Setup,
-    Shared, SlotNo, TxnNo, TxnStep,
+    ChangeKind, ChangeReceipt, LogDevice, Lsn, MAX_SESSIONS, MemDevice, MemStore, PageNo, Receipt,
+    Session, Setup, Shared, SlotNo, StepReceipt, TxnNo, TxnStep,
 };
 use std::process::Abort;
 use std::sync::ledger::{Blank, Ledger};
@@ -48,21 +48,21 @@ pub(crate) fn new_session<D: LogDevice, G: Ledger>(
 
 /// The receipt of a step of a transaction.
 pub(crate) fn stepped(lsn: u64, txn: u32, step: TxnStep) -> Receipt {
-    Receipt::Stepped {
+    Receipt::Stepped(StepReceipt {
         lsn: Lsn(lsn),
         txn: TxnNo(txn),
         step,
-    }
+    })
 }
 
 /// The receipt of a number that was set.
 pub(crate) fn was_set(lsn: u64, txn: u32, slot: u16, number: u64) -> Receipt {
-    Receipt::Changed {
+    Receipt::Changed(ChangeReceipt {
         lsn: Lsn(lsn),
         txn: TxnNo(txn),
         page: PAGE,
         slot: SlotNo(slot),
         kind: ChangeKind::Set,
         number,
-    }
+    })
 }
