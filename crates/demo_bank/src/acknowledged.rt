@@ -1,6 +1,7 @@
 //! What is said of a commit that was answered.
 
-ghost use Rattle.std.specs.Prelude.{◌≡◌, [], ◌∷◌, ◌++◌, IfOk, OnErr};
+ghost use Rattle.std.specs.Prelude.{◌≡◌, [], ◌∷◌, ◌++◌, IfErr, IfOk};
+ghost use Rattle.imgcopy_engine.specs.engine_run.Undoing.{unsure_receipts};
 ghost use Rattle.imgcopy_engine.specs.settlement.Receipt.{step_receipt};
 ghost use Rattle.imgcopy_engine.specs.settlement.declared.receipt.Receipt.TheVariants.{Stepped};
 ghost use Rattle.imgcopy_engine.specs.settlement.declared.receipt.TxnStep.TheVariants as step;
@@ -29,7 +30,7 @@ impl Model for Acknowledged {
 
 impl Acknowledged {
     /// Commits a transaction, and acknowledges it. The session has the receipt of just this commit
-    /// then. A commit that is refused leaves no receipt, and is not acknowledged.
+    /// then. A commit that is refused is not acknowledged, and leaves no receipt but an unsure one.
     pub fn commit<S: PageStore, D: LogDevice, G: Ledger>(
         session: &mut Session<G>,
         rt: &impl Wait,
@@ -38,7 +39,8 @@ impl Acknowledged {
     ) -> Result<Acknowledged, Refusal>
         ensures receipt { IfOk result (λ it.
             session.new ≡ session.old ++ Stepped (step_receipt it txn step.Commit) ∷ []) }
-        ensures refused { OnErr result (session.new ≡ session.old) }
+        ensures refused { IfErr result (λ why.
+            session.new ≡ session.old ++ unsure_receipts txn why) }
     {
         let lsn = session.commit(rt, bank, txn)?.lsn;
         Ok(Acknowledged { lsn })

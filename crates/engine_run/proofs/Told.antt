@@ -1,9 +1,10 @@
 -- What a settled run tells.
 use Rattle.std.proofs.Common.{ℕ, ◌≡◌, ◌+◌, ◌<◌, ◌≤◌, ◌++◌, List, [], ◌∷◌, length, take, arith, refl, subst, sym}
-use Rattle.std.proofs.Common.{◌-◌, ap, inl, inr, slice_index_or, ◌∙◌, IsSomeAnd}
+use Rattle.std.proofs.Common.{◌-◌, true, ap, inl, inr, slice_index_or, ◌∙◌, IsSomeAnd}
 use Rattle.std.specs.List.{All, filter_map}
 use Rattle.std.proofs.lemmas.List.{get_or-append_right, get_or_append_left, length-append}
 use Rattle.std.proofs.lemmas.List.Elements.{All-cons, All-nil, All-weaker, filter_map-append}
+use Rattle.log_records.specs.declared.record.Record.{Record}
 use Rattle.log_records.specs.Log.{Log, lsn_of}
 use Rattle.copy_vault.specs.Copy.{CopyView}
 use Rattle.copy_vault.specs.declared.copy_id.CopyKind.TheVariants.{Full}
@@ -13,10 +14,11 @@ use Rattle.copy_coverage.specs.Kept.{IsKeptOf}
 use Rattle.copy_coverage.specs.Retired.{IsRetired, RetiredView}
 use Rattle.settlement.specs.declared.receipt.Receipt.{Receipt}
 use Rattle.settlement.specs.declared.receipt.Receipt.TheVariants.{Read}
-use Rattle.settlement.specs.Receipt.{read_receipt, written}
+use Rattle.settlement.specs.Receipt.{read_receipt, times, written}
+use Rattle.settlement.specs.Counts.{is_of_txn}
 use Rattle.settlement.specs.Session.{AllStand}
 use Rattle.settlement.specs.Sessions.{AreApart, IsCommitIn, all_receipts}
-use Rattle.settlement.proofs.Public.{commits_kept, own_write}
+use Rattle.settlement.proofs.Public.{commits_kept, one_receipt_each, own_write}
 use Rattle.settlement.proofs.Public.{times-append}
 use Rattle.settlement.proofs.Public.{times_all}
 use Rattle.engine_rules.specs.EngineState.{EngineState}
@@ -48,6 +50,15 @@ of_last P xs ys all k d lt =
     get_or-append_right xs ys (length xs) (length xs + k) d refl (omega arith)
     ∙ ap (λ (i : ℕ). slice_index_or ys i d) (omega arith) in
     subst P past (all (length xs + k) d (omega (arith, lt, length-append xs ys)))
+
+-- each record of a transaction since the run began has one receipt
+pub answered_once : (began : Beginning) (e : Evidence) (sessions : List (List Receipt)) (works : List Work)
+    → IsSettled began e sessions works → (i : ℕ) (d : Record) → began.records ≤ i → i < length e.log.records
+    → is_of_txn (slice_index_or e.log.records i d) ≡ true → times (lsn_of i) (written (all_receipts sessions)) ≡ 1
+answered_once began e sessions works settled i d from within is =
+    one_receipt_each e.log.records e.forced_end began.records sessions i d settled.counted settled.receipts
+    (of_first (λ lsn. lsn_of began.records ≤ lsn) (written (all_receipts sessions)) (filter_map begin_of works) settled.newer)
+    (records_apart began e sessions works settled) from within is
 
 pub commits_told : (began : Beginning) (left : RetiredView) (sessions : List (List Receipt)) (works : List Work)
     (kept : Log) → IsSettled began (evidence_in left) sessions works

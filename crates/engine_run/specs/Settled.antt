@@ -12,7 +12,7 @@ use Rattle.copy_vault.specs.Vault.{CopyState, complete_of, state_of}
 use Rattle.copy_coverage.specs.Retired.{RetiredView}
 use Rattle.settlement.specs.declared.receipt.Receipt.{Receipt}
 use Rattle.settlement.specs.Checkpoint.{HasCheckpoint}
-use Rattle.settlement.specs.Counts.{changes_in, updates_in}
+use Rattle.settlement.specs.Counts.{txn_records_in, written_in}
 use Rattle.settlement.specs.Marks.{AreMarked}
 use Rattle.settlement.specs.Receipt.{times, written}
 use Rattle.settlement.specs.Session.{AllStand}
@@ -72,11 +72,11 @@ lsns_of sessions works = written (all_receipts sessions) ++ filter_map begin_of 
 abbrev pub copies_of : List Work → List ℕ
 copies_of works = filter_map copy_of works
 
--- the changes of the first records, which were there before, and those of the sessions are as many
--- as the log has
+-- the records of transactions that were there before, the first ones, and those that the sessions
+-- have receipts of are as many as the log has
 abbrev pub AddUp : ℕ → List (List Receipt) → List Record → Type 0
 AddUp before sessions rs =
-    updates_in (take before rs) + sum_by changes_in sessions ≡ updates_in rs
+    txn_records_in (take before rs) + sum_by written_in sessions ≡ txn_records_in rs
 
 -- none of the records that were answered was there before
 abbrev pub AreNewer : ℕ → List (List Receipt) → List Work → Type 0
@@ -86,8 +86,8 @@ AreNewer before sessions works = All (λ lsn. lsn_of before ≤ lsn) (lsns_of se
 abbrev pub AreNewCopies : ℕ → List Work → Type 0
 AreNewCopies last works = All (λ id. last < id) (copies_of works)
 
--- this was there when the sessions began. The shares of the sessions add up to the changes that the
--- log has got since; each receipt stands, and so does each Point and copy; none of their records
+-- this was there when the sessions began. The shares of the sessions add up to the records of
+-- transactions that the log has got since; each receipt stands, and so does each Point and copy; none of their records
 -- and none of the copies is older; and nothing was answered twice
 pub record IsSettled (began : Beginning) (e : Evidence) (sessions : List (List Receipt))
     (works : List Work) : Type 0 where

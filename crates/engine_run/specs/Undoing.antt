@@ -1,5 +1,5 @@
--- Steps back, of a rollback and to a savepoint: what they answer, and their receipts.
-use Rattle.std.specs.Prelude.{ℕ, List, [], ◌∷◌}
+-- Commits, and steps back of a rollback and to a savepoint: what they answer, and their receipts.
+use Rattle.std.specs.Prelude.{ℕ, List, [], ◌∷◌, length, Result, Ok, Err}
 use Rattle.settlement.specs.Receipt.{step_receipt}
 use Rattle.settlement.specs.declared.receipt.Receipt.{Receipt}
 use Rattle.settlement.specs.declared.receipt.Receipt.TheVariants.{Stepped}
@@ -10,6 +10,8 @@ use Rattle.engine_calls.specs.declared.event.Answer.{Answer}
 use Rattle.engine_calls.specs.declared.event.Answer.TheVariants as answer
 use Rattle.engine_calls.specs.declared.event.SteppedBack.{SteppedBack}
 use Rattle.engine_calls.specs.declared.event.SteppedBack.TheVariants as back
+use Rattle.engine_calls.specs.declared.refusal.Refusal.{Refusal}
+use Rattle.engine_calls.specs.declared.refusal.Refusal.TheVariants.{CommitUnsure}
 
 -- a step of a rollback takes a change back, or ends its transaction
 abbrev pub IsUndoStep : TxnStep → Type 0
@@ -25,7 +27,22 @@ answer_of_step other lsn = answer.Undid lsn
 abbrev pub undone_answer : StepReceipt → Answer
 undone_answer it = answer_of_step it.step it.lsn
 
+-- a commit that is unsure leaves the receipt of its Commit, and no other refusal leaves one
+abbrev pub unsure_receipts : ℕ → Refusal → List Receipt
+unsure_receipts txn (CommitUnsure lsn) = Stepped (step_receipt lsn txn step.Unsure) ∷ []
+unsure_receipts txn other = []
+
+-- how many records a commit appends
+abbrev pub commit_count : Result ℕ Refusal → ℕ
+commit_count (Ok lsn) = 1
+commit_count (Err why) = length (unsure_receipts 0 why)
+
 -- a step that reached its savepoint leaves none
 abbrev pub step_back_receipts : ℕ → SteppedBack → List Receipt
 step_back_receipts txn (back.Undid lsn) = Stepped (step_receipt lsn txn step.Comp) ∷ []
 step_back_receipts txn back.Reached = []
+
+-- how many records it appends
+abbrev pub step_back_count : Result SteppedBack Refusal → ℕ
+step_back_count (Ok done) = length (step_back_receipts 0 done)
+step_back_count (Err why) = 0

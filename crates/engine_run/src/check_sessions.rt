@@ -1,9 +1,10 @@
-//! Whether the shares of sessions add up to the changes of a log, and their receipts stand in it.
+//! Whether the shares of sessions add up to the records of transactions in a log, and their receipts
+//! stand in it.
 
 ghost use Rattle.std.specs.Prelude.{◌≡◌, drop, false, true, length, replicate, IfErr, OnOk};
 ghost use Rattle.std.specs.List.{All, sum_by};
 ghost use Rattle.settlement.specs.Volume.{AreOfVolume};
-ghost use Rattle.settlement.specs.Counts.{changes_in, updates_in};
+ghost use Rattle.settlement.specs.Counts.{is_of_txn, txn_records_in, written_in};
 ghost use Rattle.settlement.specs.Marks.{AreMarked};
 ghost use Rattle.settlement.specs.Receipt.{written};
 ghost use Rattle.settlement.specs.Session.{AllStand};
@@ -16,22 +17,23 @@ use page_core::{Lsn, Page};
 use settlement::check_session;
 use std::sync::ledger::Ledger;
 
-/// Whether the shares of the sessions add up to the changes of the log behind its first records.
+/// Whether the shares of the sessions add up to the records of transactions in the log behind its
+/// first records.
 pub(crate) fn add_up<G: Ledger>(began: u32, sessions: &[Session<G>], records: &[Record]) -> bool
     ensures yes { result ≡ true → AddUp began sessions.now records.now }
     ensures no { result ≡ false → ¬ AddUp began sessions.now records.now }
 {
-    changes_are(sessions, update_count(behind(began, records)))
+    have_written(sessions, txn_record_count(behind(began, records)))
 }
 
-/// Whether the sessions have made so many changes.
-fn changes_are<G: Ledger>(sessions: &[Session<G>], count: usize) -> bool
-    ensures yes { result ≡ true → sum_by changes_in sessions.now ≡ count }
-    ensures no { result ≡ false → ¬ (sum_by changes_in sessions.now ≡ count) }
+/// Whether the sessions have receipts of so many records.
+fn have_written<G: Ledger>(sessions: &[Session<G>], count: usize) -> bool
+    ensures yes { result ≡ true → sum_by written_in sessions.now ≡ count }
+    ensures no { result ≡ false → ¬ (sum_by written_in sessions.now ≡ count) }
 {
     let mut left = count;
     for session in sessions {
-        let Some(rest) = left.checked_sub(session.changes()) else {
+        let Some(rest) = left.checked_sub(session.written()) else {
             return false;
         };
         left = rest;
@@ -39,14 +41,30 @@ fn changes_are<G: Ledger>(sessions: &[Session<G>], count: usize) -> bool
     left == 0
 }
 
-/// How many changes these records have.
-pub(crate) fn update_count(records: &[Record]) -> usize
-    ensures { result ≡ updates_in records.now }
+/// How many of these records transactions have appended.
+pub(crate) fn txn_record_count(records: &[Record]) -> usize
+    ensures { result ≡ txn_records_in records.now }
 {
-    records
-        .iter()
-        .filter(|record| matches!(record, Record::Update { .. }))
-        .count()
+    records.iter().filter(|record| is_of_txn(record)).count()
+}
+
+/// Whether a transaction appended it.
+fn is_of_txn(record: &Record) -> bool
+    ensures { result ≡ is_of_txn «record».now }
+{
+    match *record {
+        Record::Begin { .. }
+        | Record::Update { .. }
+        | Record::Comp { .. }
+        | Record::Commit { .. }
+        | Record::Abort { .. }
+        | Record::End { .. } => true,
+        Record::BeginChkpt { .. }
+        | Record::ChkptPages { .. }
+        | Record::ChkptTxns { .. }
+        | Record::EndChkpt { .. }
+        | Record::Extend { .. } => false,
+    }
 }
 
 /// The records behind the first ones.

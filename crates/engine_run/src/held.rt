@@ -1,7 +1,7 @@
-//! What lies under the lock: the engine, and the book that counts its changes.
+//! What lies under the lock: the engine, and the book that counts the records of its transactions.
 
-ghost use Rattle.std.specs.Prelude.{◌≡◌, ◌+◌, ◌<◌, IfOk, OnErr, OnOk};
-ghost use Rattle.settlement.specs.Counts.{updates_in};
+ghost use Rattle.std.specs.Prelude.{◌≡◌, ◌+◌, ◌<◌, true, false, IfOk, OnErr, OnOk};
+ghost use Rattle.settlement.specs.Counts.{txn_records_in};
 ghost use Rattle.engine_rules.specs.Asked.{asked};
 ghost use Rattle.engine_rules.specs.EngineState.{end, volume_pages};
 ghost use Rattle.engine_rules.specs.Step.{Step, reply_of, step_back_answer, undo_answer};
@@ -9,6 +9,7 @@ ghost use Rattle.engine_rules.specs.Uses.{AsksStore, ForcesDevice};
 ghost use Rattle.engine_calls.specs.declared.event.Answer.TheVariants as answer;
 ghost use Rattle.engine_calls.specs.declared.event.Event.TheVariants as event;
 ghost use Rattle.engine_run.specs.Replies.{ForcesCommit, MadeOn, ReadsAt, RepliesBy};
+ghost use Rattle.engine_run.specs.Undoing.{commit_count, step_back_count};
 
 use aries_core::{Engine, Refusal, SteppedBack, Undone};
 use log_store::LogDevice;
@@ -18,8 +19,9 @@ use std::marker::Model;
 use std::sync::ledger::{Book, Ledger, Share};
 
 /// An engine, and the book of the ledger in which each session has a share: its total is the number
-/// of changes in the log. It is what the lock of a shared engine guards. Each method is the call of
-/// that name of the engine, and so one event.
+/// of records of transactions in the log. It is what the lock of a shared engine guards. Each method
+/// is the call of that name of the engine, and so one event. A call of a transaction counts the
+/// record that it appends in the share of the session that made it, so who has no share makes none.
 #[derive(Drop)]
 pub struct Held<S: PageStore, D: LogDevice, G: Ledger> {
     pub(crate) engine: Engine<S, D>,
@@ -37,9 +39,9 @@ impl<S: PageStore, D: LogDevice, G: Ledger> Model for Held<S, D, G> {
 }
 
 impl<S: PageStore, D: LogDevice, G: Ledger> Held<S, D, G> {
-    /// An engine, and a book that has counted the changes of its log.
+    /// An engine, and a book that has counted the records of transactions in its log.
     pub fn new(engine: Engine<S, D>, book: Book<G>) -> Held<S, D, G>
-        requires counted { book.total ≡ updates_in engine.state.log }
+        requires counted { book.total ≡ txn_records_in engine.state.log }
         ensures engine { result.engine ≡ engine }
     {
         Held { engine, book }
@@ -52,23 +54,30 @@ impl<S: PageStore, D: LogDevice, G: Ledger> Held<S, D, G> {
         self.engine.log().pages()
     }
 
-    /// Begins a transaction, as `Engine::begin` does.
-    pub fn begin(&mut self) -> Result<(TxnNo, Lsn), Refusal>
+    /// Begins a transaction, as `Engine::begin` does, and counts its Begin.
+    pub fn begin(&mut self, share: &mut Share<G>) -> Result<(TxnNo, Lsn), Refusal>
+        requires part { 0 < share.old.parts }
         ensures step { Step self.old.engine.state event.Begin
             (reply_of (λ a. answer.Began a.0 a.1) result) self.new.engine.state }
         ensures store { self.new.engine.store ≡ self.old.engine.store }
         ensures device { self.new.engine.device ≡ self.old.engine.device }
+        ensures counted { OnOk result (share.new.amount ≡ share.old.amount + 1) }
+        ensures uncounted { OnErr result (share.new.amount ≡ share.old.amount) }
+        ensures same_parts { share.new.parts ≡ share.old.parts }
         ensures replies { RepliesBy (MadeOn S.PageStore D.LogDevice) event.Begin
             (reply_of (λ a. answer.Began a.0 a.1) result) }
     {
         let _ = self.engine.log_end();
         let result = self.engine.begin();
         let _ = self.engine.log();
+        if result.is_ok() {
+            self.book.add(share, 1);
+        }
         result
     }
 
-    /// Puts a number into a slot, as `Engine::set` does, and counts the change in the share of the
-    /// session that asked for it. Nothing is counted at a refusal.
+    /// Puts a number into a slot, as `Engine::set` does, and counts the change. Nothing is counted
+    /// at a refusal.
     pub fn set(
         &mut self,
         txn: TxnNo,
@@ -155,13 +164,17 @@ impl<S: PageStore, D: LogDevice, G: Ledger> Held<S, D, G> {
         Ok((end, number))
     }
 
-    /// Commits a transaction, as `Engine::commit` does.
-    pub fn commit(&mut self, txn: TxnNo) -> Result<Lsn, Refusal>
+    /// Commits a transaction, as `Engine::commit` does, and counts its Commit, which an unsure one
+    /// has, too.
+    pub fn commit(&mut self, txn: TxnNo, share: &mut Share<G>) -> Result<Lsn, Refusal>
+        requires part { 0 < share.old.parts }
         ensures step { Step self.old.engine.state (event.Commit txn) (reply_of answer.Logged result)
             self.new.engine.state }
         ensures store { self.new.engine.store ≡ self.old.engine.store }
         ensures device { ForcesDevice D.called D.synced D.failures D.fails_from self.old.engine
             result self.new.engine }
+        ensures counted { share.new.amount ≡ share.old.amount + commit_count result }
+        ensures same_parts { share.new.parts ≡ share.old.parts }
         ensures replies { RepliesBy (MadeOn S.PageStore D.LogDevice) (event.Commit txn)
             (reply_of answer.Logged result) }
         ensures forced { IfOk result (ForcesCommit (MadeOn S.PageStore D.LogDevice) txn) }
@@ -169,38 +182,57 @@ impl<S: PageStore, D: LogDevice, G: Ledger> Held<S, D, G> {
         let _ = self.engine.log_end();
         let result = self.engine.commit(txn);
         let _ = self.engine.log();
+        if has_commit(&result) {
+            self.book.add(share, 1);
+        }
         result
     }
 
-    /// Begins to take the changes of a transaction back, as `Engine::abort` does.
-    pub fn abort(&mut self, txn: TxnNo) -> Result<Lsn, Refusal>
+    /// Begins to take the changes of a transaction back, as `Engine::abort` does, and counts its
+    /// Abort.
+    pub fn abort(&mut self, txn: TxnNo, share: &mut Share<G>) -> Result<Lsn, Refusal>
+        requires part { 0 < share.old.parts }
         ensures step { Step self.old.engine.state (event.Abort txn) (reply_of answer.Logged result)
             self.new.engine.state }
         ensures store { self.new.engine.store ≡ self.old.engine.store }
         ensures device { self.new.engine.device ≡ self.old.engine.device }
+        ensures counted { OnOk result (share.new.amount ≡ share.old.amount + 1) }
+        ensures uncounted { OnErr result (share.new.amount ≡ share.old.amount) }
+        ensures same_parts { share.new.parts ≡ share.old.parts }
         ensures replies { RepliesBy (MadeOn S.PageStore D.LogDevice) (event.Abort txn)
             (reply_of answer.Logged result) }
     {
         let _ = self.engine.log_end();
         let result = self.engine.abort(txn);
         let _ = self.engine.log();
+        if result.is_ok() {
+            self.book.add(share, 1);
+        }
         result
     }
 
-    /// Takes one change of a transaction back, or ends it, as `Engine::undo_step` does.
-    pub fn undo_step(&mut self, txn: TxnNo) -> Result<Undone, Refusal>
+    /// Takes one change of a transaction back, or ends it, as `Engine::undo_step` does, and counts
+    /// its Comp or End.
+    pub fn undo_step(&mut self, txn: TxnNo, share: &mut Share<G>) -> Result<Undone, Refusal>
+        requires part { 0 < share.old.parts }
         ensures step { Step self.old.engine.state (event.UndoStep txn) (reply_of undo_answer result)
             self.new.engine.state }
         ensures store { AsksStore S.gave S.wrote S.grew S.failures
             (asked self.old.engine.state (event.UndoStep txn)) self.old.engine result
             self.new.engine }
         ensures device { self.new.engine.device ≡ self.old.engine.device }
+        ensures counted { OnOk result (share.new.amount ≡ share.old.amount + 1) }
+        ensures uncounted { OnErr result (share.new.amount ≡ share.old.amount) }
+        ensures same_parts { share.new.parts ≡ share.old.parts }
         ensures replies { RepliesBy (MadeOn S.PageStore D.LogDevice) (event.UndoStep txn)
             (reply_of undo_answer result) }
     {
         let _ = self.engine.log_end();
         let result = self.engine.undo_step(txn);
         let _ = self.engine.log();
+        if result.is_ok() {
+            self.book.add(share, 1);
+        }
         result
     }
 
@@ -219,20 +251,47 @@ impl<S: PageStore, D: LogDevice, G: Ledger> Held<S, D, G> {
     }
 
     /// Takes one change of a transaction back that was made behind a savepoint, as
-    /// `Engine::undo_to` does.
-    pub fn undo_to(&mut self, txn: TxnNo, savepoint: Lsn) -> Result<SteppedBack, Refusal>
+    /// `Engine::undo_to` does, and counts its Comp. Where the savepoint is reached there is none.
+    pub fn undo_to(
+        &mut self,
+        txn: TxnNo,
+        savepoint: Lsn,
+        share: &mut Share<G>,
+    ) -> Result<SteppedBack, Refusal>
+        requires part { 0 < share.old.parts }
         ensures step { Step self.old.engine.state (event.UndoTo txn savepoint)
             (reply_of step_back_answer result) self.new.engine.state }
         ensures store { AsksStore S.gave S.wrote S.grew S.failures
             (asked self.old.engine.state (event.UndoTo txn savepoint)) self.old.engine result
             self.new.engine }
         ensures device { self.new.engine.device ≡ self.old.engine.device }
+        ensures counted { share.new.amount ≡ share.old.amount + step_back_count result }
+        ensures same_parts { share.new.parts ≡ share.old.parts }
         ensures replies { RepliesBy (MadeOn S.PageStore D.LogDevice) (event.UndoTo txn savepoint)
             (reply_of step_back_answer result) }
     {
         let _ = self.engine.log_end();
         let result = self.engine.undo_to(txn, savepoint);
         let _ = self.engine.log();
+        if has_comp(&result) {
+            self.book.add(share, 1);
+        }
         result
     }
+}
+
+/// Whether a commit that is answered so has its Commit in the log.
+fn has_commit(done: &Result<Lsn, Refusal>) -> bool
+    ensures yes { result ≡ true → commit_count done.now ≡ 1 }
+    ensures no { result ≡ false → commit_count done.now ≡ 0 }
+{
+    matches!(done, Ok(_) | Err(Refusal::CommitUnsure(_)))
+}
+
+/// Whether a step back that is answered so has its Comp in the log.
+fn has_comp(done: &Result<SteppedBack, Refusal>) -> bool
+    ensures yes { result ≡ true → step_back_count done.now ≡ 1 }
+    ensures no { result ≡ false → step_back_count done.now ≡ 0 }
+{
+    matches!(done, Ok(SteppedBack::Undid(_)))
 }

@@ -195,8 +195,8 @@ impl<S: PageStore, D: LogDevice, G: Ledger> Held<S, D, G> {
         result
     }
 
-    /// Grows the volume to so many pages, as `Engine::extend` does. An Extend is no change of a
-    /// session, so no share counts it.
+    /// Grows the volume to so many pages, as `Engine::extend` does. An Extend is of no transaction,
+    /// so no share counts it.
     pub fn extend(&mut self, count: u32) -> Result<Lsn, Refusal>
         ensures step { Step self.old.engine.state (event.Extend count)
             (reply_of answer.Logged result) self.new.engine.state }

@@ -28,7 +28,7 @@ impl<G: Ledger> Model for IdleSessions<G> {
     ghost use Rattle.std.specs.Prelude.{◌≡◌, ◌<◌, List, [], vec_capacity, vec_len};
     ghost use Rattle.std.specs.List.{sum_by};
     ghost use Rattle.std.specs.Option.{option_map_or};
-    ghost use Rattle.settlement.specs.Counts.{changes_in};
+    ghost use Rattle.settlement.specs.Counts.{written_in};
     ghost use Rattle.settlement.specs.declared.receipt.Receipt.{Receipt};
 
     ghost Value = { List (List Receipt) };
@@ -36,7 +36,7 @@ impl<G: Ledger> Model for IdleSessions<G> {
     ghost view = { λ it. it.folders.items };
 
     ghost invariant = { λ it. (option_map_or (λ all. all.parts) it.shares 0 ≡ vec_len it.folders)
-        × (option_map_or (λ all. all.amount) it.shares 0 ≡ sum_by changes_in it.folders.items)
+        × (option_map_or (λ all. all.amount) it.shares 0 ≡ sum_by written_in it.folders.items)
         × (0 < vec_len it.folders → G.parts ≡ 65)
         × (vec_capacity it.folders ≡ 65) × (vec_capacity it.room ≡ 65) × (it.room.items ≡ []) };
 }

@@ -11,8 +11,8 @@ ghost use Rattle.copy_coverage.specs.Copied.{Restores};
 ghost use Rattle.copy_coverage.specs.Kept.{IsKeptOf};
 ghost use Rattle.copy_coverage.specs.Retired.{IsRetired, RetiredView};
 ghost use Rattle.settlement.specs.declared.receipt.Receipt.{Receipt};
-ghost use Rattle.settlement.specs.Counts.{is_update};
-ghost use Rattle.settlement.specs.Receipt.{times};
+ghost use Rattle.settlement.specs.Counts.{is_of_txn, is_update};
+ghost use Rattle.settlement.specs.Receipt.{times, written};
 ghost use Rattle.settlement.specs.Sessions.{IsCommitIn, all_receipts, changed};
 ghost use Rattle.engine_rules.specs.EngineState.{EngineState, IsFit, log_of};
 ghost use Rattle.engine_calls.specs.declared.event.Answer.{Answer};
@@ -34,7 +34,8 @@ use page_store::PageStore;
 use std::sync::ledger::Ledger;
 
 /// Whenever the lock is free, what lies under it is what the promise on restores speaks of: its
-/// engine is fit, and its book has counted each change of its log. So each complete copy restores
+/// engine is fit, and its book has counted each record of a transaction in
+/// its log. So each complete copy restores
 /// every log that a crash may leave then, while all others go on.
 pub fn a_free_lock_guards_a_fit_engine<S: PageStore, D: LogDevice, G: Ledger>(held: &Held<S, D, G>)
     ensures fit { IsFit held.now.engine.state }
@@ -48,9 +49,18 @@ pub fn a_free_lock_guards_a_fit_engine<S: PageStore, D: LogDevice, G: Ledger>(he
     a_complete_copy_restores();
 }
 
-/// The changes that the log has got since the sessions began are those that were answered, each
-/// once: one receipt of a change has the LSN of each Update. That a receipt of a change has an
-/// Update of its own in the log is a part of what *settled* says.
+/// Each record of a transaction that the log has got since the sessions began was answered to one
+/// of them, once: one receipt has its LSN. So no transaction was begun, committed or taken back that
+/// no session asked for. That a receipt has a record of its own is a part of what *settled* says.
+pub fn each_record_was_answered_once()
+    ensures { (began : Beginning) (e : Evidence) (sessions : List (List Receipt)) (works : List Work)
+        → IsSettled began e sessions works → (i : ℕ) (d : Record) → began.records ≤ i
+        → i < length e.log.records
+        → is_of_txn (slice_index_or e.log.records i d) ≡ true
+        → times (lsn_of i) (written (all_receipts sessions)) ≡ 1 }
+{}
+
+/// And that of an Update is the receipt of a change.
 pub fn each_change_was_answered_once()
     ensures { (began : Beginning) (e : Evidence) (sessions : List (List Receipt)) (works : List Work)
         → IsSettled began e sessions works → (i : ℕ) (d : Record) → began.records ≤ i

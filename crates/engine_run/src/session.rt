@@ -6,13 +6,14 @@ ghost use Rattle.std.specs.Option.{option_map_or};
 ghost use Rattle.page_core.specs.declared.change.ChangeKind.TheVariants as kind;
 ghost use Rattle.settlement.specs.declared.receipt.Receipt.TheVariants.{Changed, Read, Stepped};
 ghost use Rattle.settlement.specs.declared.receipt.TxnStep.TheVariants as step;
-ghost use Rattle.settlement.specs.Counts.{changes_in};
+ghost use Rattle.settlement.specs.Counts.{written_in};
 ghost use Rattle.settlement.specs.Receipt.{change_receipt, read_receipt, step_receipt};
 ghost use Rattle.engine_rules.specs.Step.{reply_of, step_back_answer};
 ghost use Rattle.engine_calls.specs.declared.event.Answer.TheVariants as answer;
 ghost use Rattle.engine_calls.specs.declared.event.Event.TheVariants as event;
 ghost use Rattle.engine_run.specs.Replies.{ForcesCommit, IsTold, MadeOn, ReadsAt, RepliesBy};
 ghost use Rattle.engine_run.specs.Undoing.{IsUndoStep, step_back_receipts, undone_answer};
+ghost use Rattle.engine_run.specs.Undoing.{unsure_receipts};
 
 use crate::folder::Folder;
 use crate::shared::Shared;
@@ -27,17 +28,17 @@ use std::sync::Wait;
 use std::sync::ledger::{Ledger, Share};
 
 /// One user of a shared engine. It keeps a receipt of each call that was answered, in order, and a
-/// share of the ledger, whose amount is the number of its changes.
+/// share of the ledger, whose amount is the number of records that its calls have appended.
 #[derive(Drop)]
 pub struct Session<G: Ledger> {
     share: Share<G>,
     receipts: Vec<Receipt>,
-    changes: usize,
+    written: usize,
 }
 
 impl<G: Ledger> Model for Session<G> {
     ghost use Rattle.std.specs.Prelude.{◌≡◌, List};
-    ghost use Rattle.settlement.specs.Counts.{changes_in};
+    ghost use Rattle.settlement.specs.Counts.{written_in};
     ghost use Rattle.settlement.specs.declared.receipt.Receipt.{Receipt};
 
     ghost Value = { List Receipt };
@@ -45,8 +46,8 @@ impl<G: Ledger> Model for Session<G> {
     ghost view = { λ it. it.receipts.items };
 
     ghost invariant = { λ it. (it.share.parts ≡ 1) × (G.parts ≡ 65)
-        × (it.share.amount ≡ changes_in it.receipts.items)
-        × (it.changes ≡ changes_in it.receipts.items) };
+        × (it.share.amount ≡ written_in it.receipts.items)
+        × (it.written ≡ written_in it.receipts.items) };
 }
 
 impl<G: Ledger> Session<G> {
@@ -60,7 +61,7 @@ impl<G: Ledger> Session<G> {
         Session {
             share,
             receipts: Vec::new(alloc),
-            changes: 0,
+            written: 0,
         }
     }
 
@@ -71,11 +72,11 @@ impl<G: Ledger> Session<G> {
         &self.receipts
     }
 
-    /// How many of them are of changes: the amount of its share.
-    pub fn changes(&self) -> usize
-        ensures { result ≡ changes_in self.now }
+    /// How many of them are of records, that is, no reads: the amount of its share.
+    pub fn written(&self) -> usize
+        ensures { result ≡ written_in self.now }
     {
-        self.changes
+        self.written
     }
 
     /// Begins a transaction, and answers its receipt, which names the transaction. Refusals are those
@@ -92,7 +93,8 @@ impl<G: Ledger> Session<G> {
             (reply_of (λ it. answer.Began it.txn it.lsn) result) }
     {
         make_room(&mut self.receipts)?;
-        let (txn, lsn) = shared.held.lock(rt).begin()?;
+        let (txn, lsn) = shared.held.lock(rt).begin(&mut self.share)?;
+        self.written += 1;
         Ok(keep_step(&mut self.receipts, lsn, txn, TxnStep::Begin))
     }
 
@@ -119,7 +121,7 @@ impl<G: Ledger> Session<G> {
             .held
             .lock(rt)
             .set(txn, page, slot, number, &mut self.share)?;
-        self.changes += 1;
+        self.written += 1;
         Ok(keep_change(&mut self.receipts, &ChangeReceipt {
             lsn,
             txn,
@@ -154,7 +156,7 @@ impl<G: Ledger> Session<G> {
             .held
             .lock(rt)
             .add(txn, page, slot, amount, &mut self.share)?;
-        self.changes += 1;
+        self.written += 1;
         Ok(keep_change(&mut self.receipts, &ChangeReceipt {
             lsn,
             txn,
@@ -208,7 +210,8 @@ impl<G: Ledger> Session<G> {
 
     /// Commits a transaction, and answers the receipt of its Commit, which is forced then. Refusals
     /// are those of `Engine::commit`; `OutOfMemory` comes first, where there is no room for the
-    /// receipt. A commit that is answered `CommitUnsure` leaves no receipt.
+    /// receipt. A commit that is answered `CommitUnsure` has a Commit in the log, so it leaves a
+    /// receipt too, of a step `Unsure`.
     pub fn commit<S: PageStore, D: LogDevice>(
         &mut self,
         rt: &impl Wait,
@@ -217,15 +220,29 @@ impl<G: Ledger> Session<G> {
     ) -> Result<StepReceipt, Refusal>
         ensures receipt { IfOk result (λ it. self.new ≡ self.old ++ Stepped it ∷ []) }
         ensures names { IfOk result (λ it. it ≡ step_receipt it.lsn txn step.Commit) }
-        ensures refused { OnErr result (self.new ≡ self.old) }
+        ensures refused { IfErr result (λ why. self.new ≡ self.old ++ unsure_receipts txn why) }
         ensures told { IsTold (MadeOn S.PageStore D.LogDevice) (event.Commit txn)
             (reply_of (λ it. answer.Logged it.lsn) result) }
         ensures forced { IfOk result (λ it.
             ForcesCommit (MadeOn S.PageStore D.LogDevice) txn it.lsn) }
     {
         make_room(&mut self.receipts)?;
-        let lsn = shared.held.lock(rt).commit(txn)?;
-        Ok(keep_step(&mut self.receipts, lsn, txn, TxnStep::Commit))
+        let result = shared.held.lock(rt).commit(txn, &mut self.share);
+        let why = match result {
+            Ok(lsn) => {
+                self.written += 1;
+                return Ok(keep_step(&mut self.receipts, lsn, txn, TxnStep::Commit));
+            }
+            Err(why) => why,
+        };
+        match why {
+            Refusal::CommitUnsure(lsn) => {
+                self.written += 1;
+                keep_step(&mut self.receipts, lsn, txn, TxnStep::Unsure);
+                Err(why)
+            }
+            _ => Err(why),
+        }
     }
 
     /// Begins to take the changes of a transaction back, and answers the receipt of its Abort.
@@ -244,7 +261,8 @@ impl<G: Ledger> Session<G> {
             (reply_of (λ it. answer.Logged it.lsn) result) }
     {
         make_room(&mut self.receipts)?;
-        let lsn = shared.held.lock(rt).abort(txn)?;
+        let lsn = shared.held.lock(rt).abort(txn, &mut self.share)?;
+        self.written += 1;
         Ok(keep_step(&mut self.receipts, lsn, txn, TxnStep::Abort))
     }
 
@@ -264,7 +282,8 @@ impl<G: Ledger> Session<G> {
             (reply_of undone_answer result) }
     {
         make_room(&mut self.receipts)?;
-        let done = shared.held.lock(rt).undo_step(txn)?;
+        let done = shared.held.lock(rt).undo_step(txn, &mut self.share)?;
+        self.written += 1;
         Ok(match done {
             Undone::Undid(lsn) => keep_step(&mut self.receipts, lsn, txn, TxnStep::Comp),
             Undone::Ended(lsn) => keep_step(&mut self.receipts, lsn, txn, TxnStep::End),
@@ -304,8 +323,12 @@ impl<G: Ledger> Session<G> {
             (reply_of step_back_answer result) }
     {
         make_room(&mut self.receipts)?;
-        let done = shared.held.lock(rt).undo_to(txn, savepoint)?;
+        let done = shared
+            .held
+            .lock(rt)
+            .undo_to(txn, savepoint, &mut self.share)?;
         if let SteppedBack::Undid(lsn) = done {
+            self.written += 1;
             keep_step(&mut self.receipts, lsn, txn, TxnStep::Comp);
         }
         Ok(done)
@@ -316,39 +339,39 @@ impl<G: Ledger> Session<G> {
         ensures receipts { result.0 ≡ self }
         ensures parts { result.1.parts ≡ option_map_or (λ it. it.parts) shares 0 + 1 }
         ensures amount { result.1.amount
-            ≡ option_map_or (λ it. it.amount) shares 0 + changes_in self }
+            ≡ option_map_or (λ it. it.amount) shares 0 + written_in self }
         ensures sessions { G.parts ≡ 65 }
         ensures few { result.1.parts ≤ 65 }
     {
         let Session {
             mut share,
             receipts,
-            changes,
+            written,
         } = self;
         let mut all = match shares {
             Some(all) => all,
             None => share.empty(),
         };
         all.merge(share);
-        (Folder::new(receipts, changes), all)
+        (Folder::new(receipts, written), all)
     }
 
     /// Puts it together again, with its share out of those of all that wait.
     pub(crate) fn taken_out(folder: Folder, shares: &mut Share<G>) -> Session<G>
         requires sessions { G.parts ≡ 65 }
         requires part { 0 < shares.old.parts }
-        requires amount { changes_in folder ≤ shares.old.amount }
-        requires last { shares.old.parts ≡ 1 → shares.old.amount ≡ changes_in folder }
+        requires amount { written_in folder ≤ shares.old.amount }
+        requires last { shares.old.parts ≡ 1 → shares.old.amount ≡ written_in folder }
         ensures receipts { result ≡ folder }
         ensures parts { shares.new.parts + 1 ≡ shares.old.parts }
-        ensures amount { shares.new.amount + changes_in folder ≡ shares.old.amount }
+        ensures amount { shares.new.amount + written_in folder ≡ shares.old.amount }
     {
-        let changes = folder.changes();
-        let share = shares.split_off(1, changes as u64);
+        let written = folder.written();
+        let share = shares.split_off(1, written as u64);
         Session {
             share,
             receipts: folder.into_receipts(),
-            changes,
+            written,
         }
     }
 }

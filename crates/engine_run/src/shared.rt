@@ -7,7 +7,7 @@ ghost use Rattle.log_records.specs.Log.{IsPageCount};
 ghost use Rattle.engine_run.specs.Beginning.{IsBeginning};
 
 use crate::beginning::Beginning;
-use crate::check_sessions::update_count;
+use crate::check_sessions::txn_record_count;
 use crate::held::Held;
 use crate::session::Session;
 use crate::spare::Spare;
@@ -90,8 +90,9 @@ impl<S: PageStore + Drop, D: LogDevice + Drop, G: Ledger> Shared<S, D, G> {
 
 impl<S: PageStore, D: LogDevice, G: Ledger> Shared<S, D, G> {
     /// An engine that goes on from an older one, as `Engine::resume` makes it, and no session. The
-    /// ledger `G` is opened here. The share that no session gets counts the changes that the log has
-    /// already, so those of the sessions add up to the changes from here on. What is open stays so.
+    /// ledger `G` is opened here. The share that no session gets counts the records of transactions
+    /// that the log has already, so those of the sessions add up to those from here on. What is open
+    /// stays so.
     /// An `Err` comes where memory is refused, and hands the engine back.
     pub fn resume(
         alloc: Global,
@@ -110,7 +111,7 @@ impl<S: PageStore, D: LogDevice, G: Ledger> Shared<S, D, G> {
             return Err(engine);
         };
         let began = Beginning::of(&engine);
-        book.add(&mut rest, update_count(engine.log().records()) as u64);
+        book.add(&mut rest, txn_record_count(engine.log().records()) as u64);
         Ok(Shared {
             held: Mutex::new(Held::new(engine, book)),
             spares,

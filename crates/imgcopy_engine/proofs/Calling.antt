@@ -1,5 +1,5 @@
 -- Calls of a user, one behind the other: their receipts, and what is told of them.
-use Rattle.std.proofs.Common.{ℕ, ◌≡◌, ◌+◌, ◌++◌, ◌∷◌, List, [], Ok, Err, IfErr, MutBor, ap, append_assoc, arith}
+use Rattle.std.proofs.Common.{ℕ, ◌≡◌, ◌+◌, ◌++◌, ◌∷◌, List, [], Ok, Err, IfErr, MutBor, ap, append-nil, append_assoc, arith}
 use Rattle.std.proofs.Common.{refl, subst, sym, ◌∙◌}
 use Rattle.std.specs.Prelude.{IsErrAnd, Result}
 use Rattle.std.specs.Fn.{Once}
@@ -15,7 +15,9 @@ use Rattle.engine_calls.specs.declared.event.Answer.TheVariants as answer
 use Rattle.engine_calls.specs.declared.event.Event.TheVariants as event
 use Rattle.engine_calls.specs.declared.event.SteppedBack.{SteppedBack}
 use Rattle.engine_calls.specs.declared.event.SteppedBack.TheVariants as back
-use Rattle.engine_run.specs.Undoing.{IsUndoStep, answer_of_step, step_back_receipts, undone_answer}
+use Rattle.engine_calls.specs.declared.refusal.Refusal.{Refusal}
+use Rattle.engine_calls.specs.declared.refusal.Refusal.TheVariants.{CommitUnsure}
+use Rattle.engine_run.specs.Undoing.{IsUndoStep, answer_of_step, step_back_receipts, undone_answer, unsure_receipts}
 use Rattle.imgcopy_engine.specs.Ending.{Goes, IsCompOf, Steps, TakesBack, UserCall}
 use Rattle.imgcopy_engine.specs.Trying.{ReturnsWithState}
 
@@ -27,6 +29,12 @@ handed_on (Err f) e Q is h = subst Q (sym is) h
 pub goes_on : (old mid new : List Receipt) (r : Receipt) → Goes old mid → new ≡ mid ++ r ∷ [] → Goes old new
 goes_on old mid new r so_far is =
     (so_far.0 ++ r ∷ [], is ∙ ap (λ rs. rs ++ r ∷ []) so_far.1 ∙ append_assoc old so_far.0 (r ∷ []))
+
+-- a commit that is refused, and not unsure, leaves no receipt
+pub none_left : (txn : ℕ) (why : Refusal) (old new : List Receipt) → ((lsn : ℕ) → ¬ (why ≡ CommitUnsure lsn))
+    → new ≡ old ++ unsure_receipts txn why → new ≡ old
+none_left txn (CommitUnsure lsn) old new known is = absurd (known lsn refl)
+none_left txn other old new known is = is ∙ append-nil old
 
 -- one change more is taken back
 pub took_one_more : (txn count lsn : ℕ) (old mid new : List Receipt) → TakesBack txn count old mid

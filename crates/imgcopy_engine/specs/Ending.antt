@@ -108,12 +108,20 @@ module _ {C : Type 0} (receipts : C → List Receipt) (called : UserCall C) wher
   EndsStopped txn old stop (unfinished.Left left why) new = (left ≡ txn) × StaysOpen txn why old new
   EndsStopped txn old stop other new = ⊥
 
-  -- a commit was refused so: nobody knows whether an unsure one lasts; at any other refusal the
-  -- transaction was stopped
-  abbrev pub EndsUncommitted : {E : Type 0} → ℕ → C → Refusal → NotDone E → C → Type 0
-  EndsUncommitted txn old why told new =
-      ((lsn : ℕ) × (why ≡ CommitUnsure lsn) × (told ≡ unfinished.Unsure lsn) × (new ≡ old))
-      ⊎ (((lsn : ℕ) → ¬ (why ≡ CommitUnsure lsn)) × EndsStopped txn old (Refused why) told new)
+  -- nobody knows whether a commit lasts: its Commit stands at this LSN, and its receipt is the last
+  -- one
+  abbrev pub EndsUnsure : {E : Type 0} → ℕ → ℕ → C → NotDone E → C → Type 0
+  EndsUnsure txn lsn old told new =
+      (told ≡ unfinished.Unsure lsn) × Steps old (event.Commit txn) (Err (CommitUnsure lsn))
+      (Stepped (step_receipt lsn txn step.Unsure)) new
+
+  -- a commit was refused, and left no receipt; the transaction was stopped by that
+  pub record EndsUncommitted {E : Type 0} (txn : ℕ) (why : Refusal) (old : C) (told : NotDone E)
+      (new : C) : Type 0 where
+    pub known : (lsn : ℕ) → ¬ (why ≡ CommitUnsure lsn)
+    pub asked : C
+    pub refused : LeavesNone old (event.Commit txn) (Err why) asked
+    pub stopped : EndsStopped txn asked (Refused why) told new
 
   -- a transaction is committed at this LSN, and the receipt of its Commit is the last one
   abbrev pub Commits : ℕ → ℕ → C → C → Type 0
@@ -121,12 +129,11 @@ module _ {C : Type 0} (receipts : C → List Receipt) (called : UserCall C) wher
       Steps old (event.Commit txn) (Ok (answer.Logged lsn))
       (Stepped (step_receipt lsn txn step.Commit)) new
 
-  -- a commit was refused, and this is told of it
-  pub record EndsRefused {E : Type 0} (txn : ℕ) (old : C) (told : NotDone E) (new : C) : Type 0 where
-    pub why : Refusal
-    pub asked : C
-    pub refused : LeavesNone old (event.Commit txn) (Err why) asked
-    pub ends : EndsUncommitted txn asked why told new
+  -- a commit is unsure, or was refused; and this is told of it
+  abbrev pub EndsRefused : {E : Type 0} → ℕ → C → NotDone E → C → Type 0
+  EndsRefused txn old told new =
+      ((lsn : ℕ) × EndsUnsure txn lsn old told new)
+      ⊎ ((why : Refusal) × EndsUncommitted txn why old told new)
 
   -- a transaction ends as its work did
   abbrev pub EndsAs : {T E : Type 0} → ℕ → C → Result T (Stop E) → Result (Committed T) (NotDone E)

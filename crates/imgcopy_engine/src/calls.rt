@@ -1,6 +1,6 @@
 //! The calls of a session at its engine.
 
-ghost use Rattle.std.specs.Prelude.{◌≡◌, ◌++◌, [], ◌∷◌, List, Result, IfOk, OnErr};
+ghost use Rattle.std.specs.Prelude.{◌≡◌, ◌++◌, [], ◌∷◌, List, Result, IfErr, IfOk, OnErr};
 ghost use Rattle.page_core.specs.declared.change.ChangeKind.TheVariants as kind;
 ghost use Rattle.settlement.specs.declared.receipt.Receipt.{Receipt};
 ghost use Rattle.settlement.specs.declared.receipt.Receipt.TheVariants.{Changed, Read, Stepped};
@@ -15,6 +15,7 @@ ghost use Rattle.engine_calls.specs.declared.refusal.Refusal.{Refusal};
 ghost use Rattle.engine_run.specs.Replies.{EngineCall, ForcesCommit, IsTold, ReadsAt};
 ghost use Rattle.engine_run.specs.Replies.{RepliesBy};
 ghost use Rattle.engine_run.specs.Undoing.{IsUndoStep, step_back_receipts, undone_answer};
+ghost use Rattle.engine_run.specs.Undoing.{unsure_receipts};
 
 use aries_core::{Refusal, SteppedBack};
 use page_core::{Lsn, PageNo, SlotNo, TxnNo};
@@ -90,7 +91,8 @@ pub trait Calls {
     fn peek(&self, page: PageNo, slot: SlotNo) -> Result<u64, Refusal>
         ensures { RepliesBy made (event.Read page slot) (reply_of answer.Number result) };
 
-    /// Commits a transaction, and answers the receipt of its Commit, which is forced then.
+    /// Commits a transaction, and answers the receipt of its Commit, which is forced then. A commit
+    /// that is unsure leaves a receipt too.
     fn commit(&mut self, txn: TxnNo) -> Result<StepReceipt, Refusal>
         ensures called { called self.old (event.Commit txn)
             (reply_of (λ it. answer.Logged it.lsn) result) self.new }
@@ -98,7 +100,8 @@ pub trait Calls {
         ensures receipt { IfOk result (λ it.
             receipts self.new ≡ receipts self.old ++ Stepped it ∷ []) }
         ensures names { IfOk result (λ it. it ≡ step_receipt it.lsn txn step.Commit) }
-        ensures refused { OnErr result (receipts self.new ≡ receipts self.old) };
+        ensures refused { IfErr result (λ why.
+            receipts self.new ≡ receipts self.old ++ unsure_receipts txn why) };
 
     /// Begins to take the changes of a transaction back, and answers the receipt of its Abort.
     fn abort(&mut self, txn: TxnNo) -> Result<StepReceipt, Refusal>

@@ -49,7 +49,7 @@ commits_kept rs forced_end count xs all stand k d within =
 
 -- ---- a session and its own writes
 
-logged_of : (rs : List Record) (forced_end : ℕ) (x : Receipt) → is_read x ≡ false
+pub logged_of : (rs : List Record) (forced_end : ℕ) (x : Receipt) → is_read x ≡ false
     → HoldsIn rs forced_end x → IsLogged rs forced_end x
 logged_of rs forced_end (Changed it) is holds = holds
 logged_of rs forced_end (Stepped it) is holds = holds

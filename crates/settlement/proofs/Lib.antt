@@ -1,9 +1,9 @@
+pub mod Answered
 pub mod Orders
 pub mod Logged
 pub mod Marking
 pub mod Below
 pub mod Public
 pub mod Sessions
-pub mod Changed
 pub mod Counted
 pub mod Kept

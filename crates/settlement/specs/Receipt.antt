@@ -77,9 +77,18 @@ step_of (log.ChkptTxns lsn begin txn state last undo_next) = None
 step_of (log.EndChkpt lsn begin redo) = None
 step_of (log.Extend lsn pages) = None
 
+-- the step that the log shows of it: an unsure commit has a Commit
+abbrev pub logged_step : TxnStep → TxnStep
+logged_step step.Unsure = step.Commit
+logged_step step.Begin = step.Begin
+logged_step step.Commit = step.Commit
+logged_step step.Abort = step.Abort
+logged_step step.Comp = step.Comp
+logged_step step.End = step.End
+
 -- the record says that this transaction took this step
 abbrev pub IsStepOf : ℕ → TxnStep → Record → Type 0
-IsStepOf txn step r = (txn_of r ≡ txn) × (step_of r ≡ Some step)
+IsStepOf txn step r = (txn_of r ≡ txn) × (step_of r ≡ Some (logged_step step))
 
 -- the record is an Update of this slot by this transaction, and such a change
 abbrev pub IsUpdateOf : ℕ → ℕ → ℕ → (Change → Type 0) → Record → Type 0

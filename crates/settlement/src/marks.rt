@@ -145,14 +145,16 @@ fn is_step_of(txn: TxnNo, step: TxnStep, record: &Record) -> bool
     match *record {
         Record::Begin { txn: t, .. } => t == txn && step == TxnStep::Begin,
         Record::Comp { txn: t, .. } => t == txn && step == TxnStep::Comp,
-        Record::Commit { txn: t, .. } => t == txn && step == TxnStep::Commit,
+        Record::Commit { txn: t, .. } => {
+            t == txn && (step == TxnStep::Commit || step == TxnStep::Unsure)
+        }
         Record::Abort { txn: t, .. } => t == txn && step == TxnStep::Abort,
         Record::End { txn: t, .. } => t == txn && step == TxnStep::End,
         _ => false,
     }
 }
 
-/// Whether a receipt is of no Commit, or of one that is forced.
+/// Whether a receipt is of no commit that was answered, or of one that is forced.
 fn is_forced(forced_end: Lsn, receipt: &Receipt) -> bool
     ensures yes { result ≡ true → IsForced forced_end receipt.now }
     ensures no { result ≡ false → ¬ IsForced forced_end receipt.now }

@@ -2,13 +2,15 @@
 
 use page_core::{ChangeKind, Lsn, PageNo, SlotNo, TxnNo};
 
-/// What a transaction's record says, if it is no change that a session asked for.
+/// The step of a transaction that a receipt is of, where it is no change that a session asked for.
 #[derive(Clone, Copy, Debug, PartialEq, Eq)]
 pub enum TxnStep {
     /// The transaction begins.
     Begin,
-    /// It ends, and its changes are to last.
+    /// It ends, and its changes last: its Commit is forced.
     Commit,
+    /// It ends with a Commit, and nobody knows whether that is forced.
+    Unsure,
     /// It begins to take its changes back.
     Abort,
     /// It takes one change back.
@@ -29,7 +31,8 @@ pub struct ChangeReceipt {
     pub number: u64,
 }
 
-/// The receipt of a begin, commit, abort or undo step. The record of this kind stands at `lsn`.
+/// The receipt of a begin, commit, abort or undo step. The record of this kind stands at `lsn`; of an
+/// unsure commit it is a Commit.
 #[derive(Clone, Copy, Debug, PartialEq, Eq)]
 pub struct StepReceipt {
     pub lsn: Lsn,

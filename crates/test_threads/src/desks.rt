@@ -66,7 +66,7 @@ fn share_a_session<G: Ledger + Send + Sync, R: Threads + Wait + Abort + AllocGlo
     let sessions = desk.into_idle().into_sessions();
     assert_eq!(rt; sessions.len(), 1);
     for session in &sessions {
-        assert_eq!(rt; session.changes(), 200);
+        assert_eq!(rt; session.written(), 600);
         assert_eq!(rt; session.receipts().len(), 600);
         assert_eq!(rt; session.peek(rt, &shared, PageNo(1), SlotNo(0)), Ok(100));
     }

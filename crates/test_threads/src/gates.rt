@@ -7,7 +7,7 @@ use std::sync::atomic::{AtomicU64, Ordering};
 use std::thread;
 
 /// How often a waiting thread looks, with a yield between two looks, before it gives up.
-const LOOKS: u64 = 10_000_000;
+pub(crate) const LOOKS: u64 = 10_000_000;
 
 /// Waits until a word is at least a number, and says whether it came to that.
 pub(crate) fn wait_until(word: &AtomicU64, least: u64) -> bool {

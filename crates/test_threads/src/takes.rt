@@ -2,7 +2,7 @@
 
 ghost use Rattle.std.specs.Prelude.{◌≡◌};
 
-use crate::gates::{CountingGate, wait_until};
+use crate::gates::{CountingGate, LOOKS, wait_until};
 use crate::volume::{
     Volume, checkpoint, copied, first_point, full_copy, new_session, only, pointed, settled, volume,
 };
@@ -14,6 +14,7 @@ use std::process::Abort;
 use std::sync::Wait;
 use std::sync::atomic::{AtomicU64, Ordering};
 use std::sync::ledger::{Blank, Ledger};
+use std::thread;
 use std::thread::{Threads, join};
 
 /// A gate that holds the first take of a copy until a second one is at the gate, and a session was
@@ -38,13 +39,25 @@ impl TakesAtOnce {
             told: CountingGate::new(rt, 2, 8),
         }
     }
+
+    /// Waits for both, by so many looks in all, and says whether it came to that.
+    fn wait_for_both(&self) -> bool {
+        for _ in 0..LOOKS {
+            let came = self.came.load(Ordering::SeqCst);
+            if came >= 2 && self.answered.load(Ordering::SeqCst) >= 1 {
+                return true;
+            }
+            thread::yield_now();
+        }
+        false
+    }
 }
 
 impl HoldGate for TakesAtOnce {
     fn before(&self, worker: u32, page: PageNo) {
         self.told.before(worker, page);
         let came = self.came.fetch_add(1, Ordering::SeqCst);
-        if came == 0 && !(wait_until(&self.came, 2) && wait_until(&self.answered, 1)) {
+        if came == 0 && !self.wait_for_both() {
             self.late.store(1, Ordering::SeqCst);
         }
     }

@@ -146,6 +146,7 @@ fn unsure<G: Ledger, R: Wait + Abort + AllocGlobal>(rt: &R, blank: Blank)
         stepped(64, 1, TxnStep::Begin),
         was_set(128, 1, 0, 3),
         was_set(192, 1, 1, 4),
+        stepped(256, 1, TxnStep::Unsure),
     ];
     assert_eq!(rt; client.session.receipts(), receipts.as_slice());
 }

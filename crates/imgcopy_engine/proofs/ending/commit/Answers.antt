@@ -1,17 +1,24 @@
-use Rattle.std.proofs.Common.{List, inr, subst}
+use Rattle.std.proofs.Common.{◌≡◌, ◌++◌, ◌∷◌, ◌∙◌, [], List, ap, inl, inr, refl, subst, sym}
 use Rattle.settlement.specs.declared.receipt.Receipt.{Receipt}
+use Rattle.engine_calls.specs.declared.refusal.Refusal.{Refusal}
+use Rattle.engine_run.specs.Undoing.{unsure_receipts}
 use Rattle.imgcopy_engine.specs.Ending.{Goes}
+use Rattle.imgcopy_engine.proofs.Calling.{none_left}
 use Rattle.imgcopy_engine.proofs.ending.commit.Goals as goal
 
 pub returns-in_default : goal.returns-in_default
-returns-in_default g c = record {
-  committed = tt;
-  refused = record {
-    why = c.in-Err.why;
-    asked = c.commit.new.self;
-    refused = record { call = c.in-Err.ensures.called; same = c.in-Err.ensures.refused };
-    ends = inr (c.in_default.not-CommitUnsure, c.stopped.ensures.ends);
-  };
-  kept = subst (λ (old : List Receipt). Goes old (g.C.Calls.receipts c.stopped.new.client)) c.in-Err.ensures.refused
-      c.stopped.ensures.kept;
-}
+returns-in_default g c =
+    let known = c.in_default.not-CommitUnsure in
+    let same = none_left c.args.txn c.in-Err.why (g.C.Calls.receipts c.args.client.now)
+    (g.C.Calls.receipts c.commit.new.self) known c.in-Err.ensures.refused in
+    record {
+      committed = tt;
+      refused = inr (c.in-Err.why, record {
+        known = known;
+        asked = c.commit.new.self;
+        refused = record { call = c.in-Err.ensures.called; same = same };
+        stopped = c.stopped.ensures.ends;
+      });
+      kept = subst (λ (old : List Receipt). Goes old (g.C.Calls.receipts c.stopped.new.client)) same
+          c.stopped.ensures.kept;
+    }

@@ -4,8 +4,16 @@ use Rattle.engine_calls.specs.declared.event.Event.TheVariants as event
 use Rattle.engine_run.proofs.Replied.{replied}
 use Rattle.engine_run.proofs.held.Held.abort.Goals as goal
 
-pub returns-clause-replies : goal.returns-clause-replies
-returns-clause-replies g c =
+pub returns-then-is_ok-clause-replies : goal.returns-then-is_ok-clause-replies
+returns-then-is_ok-clause-replies g c =
+    let old = c.self.inside.engine in
+    let new = c.abort-result.new.self in
+    replied g.S.PageStore g.D.LogDevice old new (event.Abort c.args.txn) answer.Logged c.abort-result.result
+    c.log_end.ensures.fit c.abort-result.ensures.step (search rules) (search rules) c.log.ensures.pages
+    c.log.ensures.records
+
+pub returns-else-is_ok-clause-replies : goal.returns-else-is_ok-clause-replies
+returns-else-is_ok-clause-replies g c =
     let old = c.self.inside.engine in
     let new = c.abort-result.new.self in
     replied g.S.PageStore g.D.LogDevice old new (event.Abort c.args.txn) answer.Logged c.abort-result.result

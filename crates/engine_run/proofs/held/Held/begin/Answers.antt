@@ -4,9 +4,18 @@ use Rattle.engine_calls.specs.declared.event.Event.TheVariants as event
 use Rattle.engine_run.proofs.Replied.{replied}
 use Rattle.engine_run.proofs.held.Held.begin.Goals as goal
 
-pub returns-clause-replies : goal.returns-clause-replies
-returns-clause-replies g c =
+pub returns-then-is_ok-clause-replies : goal.returns-then-is_ok-clause-replies
+returns-then-is_ok-clause-replies g c =
     let old = c.self.inside.engine in
     let new = c.begin-result.new.self in
     replied g.S.PageStore g.D.LogDevice old new event.Begin (λ a. answer.Began a.0 a.1) c.begin-result.result
-    c.log_end.ensures.fit c.begin-result.ensures.step (search rules) (search rules) c.log.ensures.pages c.log.ensures.records
+    c.log_end.ensures.fit c.begin-result.ensures.step (search rules) (search rules) c.log.ensures.pages
+    c.log.ensures.records
+
+pub returns-else-is_ok-clause-replies : goal.returns-else-is_ok-clause-replies
+returns-else-is_ok-clause-replies g c =
+    let old = c.self.inside.engine in
+    let new = c.begin-result.new.self in
+    replied g.S.PageStore g.D.LogDevice old new event.Begin (λ a. answer.Began a.0 a.1) c.begin-result.result
+    c.log_end.ensures.fit c.begin-result.ensures.step (search rules) (search rules) c.log.ensures.pages
+    c.log.ensures.records

@@ -4,8 +4,16 @@ use Rattle.engine_rules.specs.Step.{step_back_answer}
 use Rattle.engine_run.proofs.Replied.{replied}
 use Rattle.engine_run.proofs.held.Held.undo_to.Goals as goal
 
-pub returns-clause-replies : goal.returns-clause-replies
-returns-clause-replies g c =
+pub returns-then-has_comp-clause-replies : goal.returns-then-has_comp-clause-replies
+returns-then-has_comp-clause-replies g c =
+    let old = c.self.inside.engine in
+    let new = c.undo_to-result.new.self in
+    replied g.S.PageStore g.D.LogDevice old new (event.UndoTo c.args.txn c.args.savepoint) step_back_answer c.undo_to-result.result
+    c.log_end.ensures.fit c.undo_to-result.ensures.step (search rules) (search rules) c.log.ensures.pages
+    c.log.ensures.records
+
+pub returns-else-has_comp-clause-replies : goal.returns-else-has_comp-clause-replies
+returns-else-has_comp-clause-replies g c =
     let old = c.self.inside.engine in
     let new = c.undo_to-result.new.self in
     replied g.S.PageStore g.D.LogDevice old new (event.UndoTo c.args.txn c.args.savepoint) step_back_answer c.undo_to-result.result
