@@ -2,7 +2,7 @@
 
 ghost use Rattle.std.specs.Prelude.{◌≡◌};
 
-use crate::gates::{CountingGate, LOOKS, wait_until};
+use crate::gates::{CountingGate, LOOKS};
 use crate::volume::{
     Volume, checkpoint, copied, first_point, full_copy, new_session, only, pointed, settled, volume,
 };
@@ -26,6 +26,8 @@ struct TakesAtOnce {
     answered: AtomicU64,
     /// 1 where the first take waited in vain.
     late: AtomicU64,
+    /// How often all threads together have looked whether they may go on.
+    looks: AtomicU64,
     told: CountingGate,
 }
 
@@ -36,15 +38,20 @@ impl TakesAtOnce {
             came: AtomicU64::new(0),
             answered: AtomicU64::new(0),
             late: AtomicU64::new(0),
+            looks: AtomicU64::new(0),
             told: CountingGate::new(rt, 2, 8),
         }
     }
 
-    /// Waits for both, by so many looks in all, and says whether it came to that.
-    fn wait_for_both(&self) -> bool {
+    /// Waits until so many takes are at the gate and so many calls were answered, and says whether
+    /// it came to that. All that wait here have `LOOKS` looks together.
+    fn wait_for(&self, takes: u64, calls: u64) -> bool {
         for _ in 0..LOOKS {
+            if self.looks.fetch_add(1, Ordering::SeqCst) >= LOOKS {
+                return false;
+            }
             let came = self.came.load(Ordering::SeqCst);
-            if came >= 2 && self.answered.load(Ordering::SeqCst) >= 1 {
+            if came >= takes && self.answered.load(Ordering::SeqCst) >= calls {
                 return true;
             }
             thread::yield_now();
@@ -57,7 +64,7 @@ impl HoldGate for TakesAtOnce {
     fn before(&self, worker: u32, page: PageNo) {
         self.told.before(worker, page);
         let came = self.came.fetch_add(1, Ordering::SeqCst);
-        if came == 0 && !self.wait_for_both() {
+        if came == 0 && !self.wait_for(2, 1) {
             self.late.store(1, Ordering::SeqCst);
         }
     }
@@ -70,7 +77,7 @@ fn begin_at_gate<G: Ledger>(
     session: &mut Session<G>,
     gate: &TakesAtOnce,
 ) {
-    assert!(rt; wait_until(&gate.came, 1));
+    assert!(rt; gate.wait_for(1, 0), "no take came to the gate");
     session.begin(rt, shared).expect(rt, "begin");
     gate.answered.store(1, Ordering::SeqCst);
 }
