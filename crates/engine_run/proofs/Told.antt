@@ -1,7 +1,7 @@
 -- What a settled run tells.
 use Rattle.std.proofs.Common.{ℕ, ◌≡◌, ◌+◌, ◌<◌, ◌≤◌, ◌++◌, List, [], ◌∷◌, length, take, arith, refl, subst, sym}
 use Rattle.std.proofs.Common.{◌-◌, true, ap, inl, inr, slice_index_or, ◌∙◌, IsSomeAnd}
-use Rattle.std.specs.List.{All, filter_map}
+use Rattle.std.specs.List.{All, filter_map, sum_by}
 use Rattle.std.proofs.lemmas.List.{get_or-append_right, get_or_append_left, length-append}
 use Rattle.std.proofs.lemmas.List.Elements.{All-cons, All-nil, All-weaker, filter_map-append}
 use Rattle.log_records.specs.declared.record.Record.{Record}
@@ -15,10 +15,10 @@ use Rattle.copy_coverage.specs.Retired.{IsRetired, RetiredView}
 use Rattle.settlement.specs.declared.receipt.Receipt.{Receipt}
 use Rattle.settlement.specs.declared.receipt.Receipt.TheVariants.{Read}
 use Rattle.settlement.specs.Receipt.{read_receipt, times, written}
-use Rattle.settlement.specs.Counts.{is_of_txn}
+use Rattle.settlement.specs.Counts.{changes_in, is_of_txn, updates_in}
 use Rattle.settlement.specs.Session.{AllStand}
 use Rattle.settlement.specs.Sessions.{AreApart, IsCommitIn, all_receipts}
-use Rattle.settlement.proofs.Public.{commits_kept, one_receipt_each, own_write}
+use Rattle.settlement.proofs.Public.{changes_add_up, commits_kept, one_receipt_each, own_write}
 use Rattle.settlement.proofs.Public.{times-append}
 use Rattle.settlement.proofs.Public.{times_all}
 use Rattle.engine_rules.specs.EngineState.{EngineState}
@@ -59,6 +59,15 @@ answered_once began e sessions works settled i d from within is =
     one_receipt_each e.log.records e.forced_end began.records sessions i d settled.counted settled.receipts
     (of_first (λ lsn. lsn_of began.records ≤ lsn) (written (all_receipts sessions)) (filter_map begin_of works) settled.newer)
     (records_apart began e sessions works settled) from within is
+
+-- and the changes are as many as the Updates
+pub changes_told : (began : Beginning) (e : Evidence) (sessions : List (List Receipt)) (works : List Work)
+    → IsSettled began e sessions works
+    → updates_in (take began.records e.log.records) + sum_by changes_in sessions ≡ updates_in e.log.records
+changes_told began e sessions works settled =
+    changes_add_up e.log.records e.forced_end began.records sessions settled.counted settled.receipts
+    (of_first (λ lsn. lsn_of began.records ≤ lsn) (written (all_receipts sessions)) (filter_map begin_of works) settled.newer)
+    (records_apart began e sessions works settled)
 
 pub commits_told : (began : Beginning) (left : RetiredView) (sessions : List (List Receipt)) (works : List Work)
     (kept : Log) → IsSettled began (evidence_in left) sessions works

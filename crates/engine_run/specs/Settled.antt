@@ -87,8 +87,8 @@ abbrev pub AreNewCopies : ℕ → List Work → Type 0
 AreNewCopies last works = All (λ id. last < id) (copies_of works)
 
 -- this was there when the sessions began. The shares of the sessions add up to the records of
--- transactions that the log has got since; each receipt stands, and so does each Point and copy; none of their records
--- and none of the copies is older; and nothing was answered twice
+-- transactions that the log has got since; each receipt stands, and so does each Point and copy;
+-- none of their records and none of the copies is older; and nothing was answered twice
 pub record IsSettled (began : Beginning) (e : Evidence) (sessions : List (List Receipt))
     (works : List Work) : Type 0 where
   pub counted : AddUp began.records sessions e.log.records

@@ -1,5 +1,5 @@
-//! Whether the shares of sessions add up to the records of transactions in a log, and their receipts
-//! stand in it.
+//! Whether the shares of sessions add up to the records of transactions in a log, and their
+//! receipts stand in it.
 
 ghost use Rattle.std.specs.Prelude.{◌≡◌, drop, false, true, length, replicate, IfErr, OnOk};
 ghost use Rattle.std.specs.List.{All, sum_by};

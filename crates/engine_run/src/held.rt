@@ -19,9 +19,10 @@ use std::marker::Model;
 use std::sync::ledger::{Book, Ledger, Share};
 
 /// An engine, and the book of the ledger in which each session has a share: its total is the number
-/// of records of transactions in the log. It is what the lock of a shared engine guards. Each method
-/// is the call of that name of the engine, and so one event. A call of a transaction counts the
-/// record that it appends in the share of the session that made it, so who has no share makes none.
+/// of records of transactions in the log. It is what the lock of a shared engine guards. Each
+/// method is the call of that name of the engine, and so one event. A call of a transaction counts
+/// the record that it appends in the share of the session that made it, so who has no share makes
+/// none.
 #[derive(Drop)]
 pub struct Held<S: PageStore, D: LogDevice, G: Ledger> {
     pub(crate) engine: Engine<S, D>,

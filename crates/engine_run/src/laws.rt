@@ -1,8 +1,8 @@
 //! What a settled run tells, for readers of the contracts.
 
-ghost use Rattle.std.specs.Prelude.{ℕ, ◌≡◌, ◌<◌, ◌≤◌, ◌⊎◌, true, List, length, slice_index_or};
-ghost use Rattle.std.specs.Prelude.{Result, Err};
-ghost use Rattle.std.specs.List.{All};
+ghost use Rattle.std.specs.Prelude.{ℕ, ◌≡◌, ◌+◌, ◌<◌, ◌≤◌, ◌⊎◌, true, List, length, take};
+ghost use Rattle.std.specs.Prelude.{slice_index_or, Result, Err};
+ghost use Rattle.std.specs.List.{All, sum_by};
 ghost use Rattle.log_records.specs.declared.record.Record.{Record};
 ghost use Rattle.log_records.specs.Log.{Log, lsn_of};
 ghost use Rattle.copy_vault.specs.Copy.{CopyView};
@@ -11,7 +11,7 @@ ghost use Rattle.copy_coverage.specs.Copied.{Restores};
 ghost use Rattle.copy_coverage.specs.Kept.{IsKeptOf};
 ghost use Rattle.copy_coverage.specs.Retired.{IsRetired, RetiredView};
 ghost use Rattle.settlement.specs.declared.receipt.Receipt.{Receipt};
-ghost use Rattle.settlement.specs.Counts.{is_of_txn, is_update};
+ghost use Rattle.settlement.specs.Counts.{changes_in, is_of_txn, is_update, updates_in};
 ghost use Rattle.settlement.specs.Receipt.{times, written};
 ghost use Rattle.settlement.specs.Sessions.{IsCommitIn, all_receipts, changed};
 ghost use Rattle.engine_rules.specs.EngineState.{EngineState, IsFit, log_of};
@@ -34,9 +34,8 @@ use page_store::PageStore;
 use std::sync::ledger::Ledger;
 
 /// Whenever the lock is free, what lies under it is what the promise on restores speaks of: its
-/// engine is fit, and its book has counted each record of a transaction in
-/// its log. So each complete copy restores
-/// every log that a crash may leave then, while all others go on.
+/// engine is fit, and its book has counted each record of a transaction in its log. So each
+/// complete copy restores every log that a crash may leave then, while all others go on.
 pub fn a_free_lock_guards_a_fit_engine<S: PageStore, D: LogDevice, G: Ledger>(held: &Held<S, D, G>)
     ensures fit { IsFit held.now.engine.state }
     ensures counted { IsCounted held.now }
@@ -50,8 +49,9 @@ pub fn a_free_lock_guards_a_fit_engine<S: PageStore, D: LogDevice, G: Ledger>(he
 }
 
 /// Each record of a transaction that the log has got since the sessions began was answered to one
-/// of them, once: one receipt has its LSN. So no transaction was begun, committed or taken back that
-/// no session asked for. That a receipt has a record of its own is a part of what *settled* says.
+/// of them, once: one receipt has its LSN. So no transaction was begun, committed or taken back
+/// that no session asked for. That a receipt has a record of its own is a part of what *settled*
+/// says.
 pub fn each_record_was_answered_once()
     ensures { (began : Beginning) (e : Evidence) (sessions : List (List Receipt)) (works : List Work)
         → IsSettled began e sessions works → (i : ℕ) (d : Record) → began.records ≤ i
@@ -60,13 +60,21 @@ pub fn each_record_was_answered_once()
         → times (lsn_of i) (written (all_receipts sessions)) ≡ 1 }
 {}
 
-/// And that of an Update is the receipt of a change.
+/// The receipt that has the LSN of an Update is that of a change.
 pub fn each_change_was_answered_once()
     ensures { (began : Beginning) (e : Evidence) (sessions : List (List Receipt)) (works : List Work)
         → IsSettled began e sessions works → (i : ℕ) (d : Record) → began.records ≤ i
         → i < length e.log.records
         → is_update (slice_index_or e.log.records i d) ≡ true
         → times (lsn_of i) (changed (all_receipts sessions)) ≡ 1 }
+{}
+
+/// The sessions have as many receipts of changes as the log has got Updates since they began.
+pub fn changes_add_up_to_updates()
+    ensures { (began : Beginning) (e : Evidence) (sessions : List (List Receipt)) (works : List Work)
+        → IsSettled began e sessions works
+        → updates_in (take began.records e.log.records) + sum_by changes_in sessions
+        ≡ updates_in e.log.records }
 {}
 
 /// The Commit of each commit that was answered is in every log that a crash may leave.

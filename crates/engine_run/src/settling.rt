@@ -39,8 +39,9 @@ pub struct Unsettled<S: PageStore, D: LogDevice, G: Ledger> {
 impl<S: PageStore, D: LogDevice, G: Ledger> Held<S, D, G> {
     /// Checks whether the run of these sessions, checkpoints and copies is settled, where `began`
     /// was there before: the shares add up to the records of transactions that the log has got
-    /// since, each receipt stands, and so does each Point and copy, none of their records and no copy is older, and
-    /// nothing was answered twice. The shares are compared first; all memory is taken then.
+    /// since, each receipt stands, and so does each Point and copy, none of their records and no
+    /// copy is older, and nothing was answered twice. The shares are compared first; all memory is
+    /// taken then.
     pub fn check(
         &self,
         alloc: Global,
@@ -141,9 +142,9 @@ impl<S: PageStore + Drop, D: LogDevice + Drop, G: Ledger> Held<S, D, G> {
 }
 
 /// Ends the run of a shared engine, where it is settled: then its log has got each record of a
-/// transaction that a session was answered, and no others, since it began. What was under the lock is compared with
-/// the receipts of all sessions, and with what its checkpoints and copies answered. Where it is
-/// refused, all is given back, and the engine can go on.
+/// transaction that a session was answered, and no others, since it began. What was under the lock
+/// is compared with the receipts of all sessions, and with what its checkpoints and copies
+/// answered. Where it is refused, all is given back, and the engine can go on.
 pub fn settle<S: PageStore + Drop, D: LogDevice + Drop, G: Ledger>(
     alloc: Global,
     sessions: Vec<Session<G>>,

@@ -24,7 +24,7 @@ use Rattle.settlement.proofs.Kept.{logged_of}
 use Rattle.settlement.proofs.Sessions.{times-cons, times_all, times_one}
 
 -- how many of the LSNs are those of the records from a place on
-abbrev found : List ℕ → List Record → ℕ → ℕ
+abbrev pub found : List ℕ → List Record → ℕ → ℕ
 found lsns [] s = 0
 found lsns (r ∷ rs) s = times (lsn_of s) lsns + found lsns rs (s + 1)
 
@@ -75,7 +75,7 @@ found_once k (r ∷ rs) s from within =
     ]
 
 -- each of them is found
-found_all : (lsns : List ℕ) (rs : List Record) (s : ℕ)
+pub found_all : (lsns : List ℕ) (rs : List Record) (s : ℕ)
     → All (λ lsn. (k : ℕ) × (lsn ≡ lsn_of k) × (s ≤ k) × (k < s + length rs)) lsns
     → found lsns rs s ≡ length lsns
 found_all [] rs s all = found_none rs s
@@ -143,7 +143,7 @@ each_found lsns (r ∷ rs) s (suc i) d few equal within =
 -- ---- the LSNs of the records that receipts are of
 
 -- what a record that stands at the LSN of a receipt is
-here_is : (q : Record → Bool) (b : Bool) (rs : List Record) (k : ℕ) (P : Record → Type 0)
+pub here_is : (q : Record → Bool) (b : Bool) (rs : List Record) (k : ℕ) (P : Record → Type 0)
     → ((r : Record) → P r → q r ≡ b) → IsSomeAnd (slice_get rs k) P
     → (k < length rs) × ((d : Record) → q (slice_index_or rs k d) ≡ b)
 here_is q b [] k P so there = elim there [ ]
@@ -216,7 +216,7 @@ written_all P (x ∷ xs) all =
     written_at P x xs (is_read x) refl (All-head Q x xs all)
     (written_all P xs (All-tail Q x xs all))
 
-all_flat : (Q : Receipt → Type 0) (sessions : List (List Receipt)) → All (All Q) sessions
+pub all_flat : (Q : Receipt → Type 0) (sessions : List (List Receipt)) → All (All Q) sessions
     → All Q (all_receipts sessions)
 all_flat Q [] all = All-nil Q
 all_flat Q (xs ∷ sessions) all =
@@ -318,7 +318,7 @@ stands_change rs forced_end before (Stepped it) i d stands update is at =
     let clash : true ≡ false = sym update ∙ none in
     cc
 
-changed_among : (lsn : ℕ) (xs : List Receipt) → times lsn (changed xs) ≤ times lsn (written xs)
+pub changed_among : (lsn : ℕ) (xs : List Receipt) → times lsn (changed xs) ≤ times lsn (written xs)
 changed_among lsn [] = omega arith
 changed_among lsn (Changed it ∷ xs) =
     let rest = changed_among lsn xs in

@@ -3,6 +3,7 @@ pub mod Orders
 pub mod Logged
 pub mod Marking
 pub mod Below
+mod Changed
 pub mod Public
 pub mod Sessions
 pub mod Counted

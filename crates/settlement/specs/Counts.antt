@@ -19,6 +19,10 @@ is_update (log.ChkptTxns lsn begin txn state last undo_next) = false
 is_update (log.EndChkpt lsn begin redo) = false
 is_update (log.Extend lsn pages) = false
 
+-- how many changes were made, those that were taken back among them
+abbrev pub updates_in : List Record → ℕ
+updates_in rs = count_by is_update rs
+
 -- a transaction appended it: it is no record of a checkpoint, and no growth
 abbrev pub is_of_txn : Record → Bool
 is_of_txn (log.Begin lsn txn) = true
@@ -44,3 +48,7 @@ written_in receipts = count_by (λ x. not (is_read x)) receipts
 abbrev pub is_change : Receipt → Bool
 is_change (Changed it) = true
 is_change other = false
+
+-- how many of the receipts are of changes
+abbrev pub changes_in : List Receipt → ℕ
+changes_in receipts = count_by is_change receipts
