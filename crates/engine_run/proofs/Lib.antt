@@ -1,3 +1,4 @@
+pub mod Passes
 pub mod Peeks
 pub mod Quiet
 pub mod Replied

@@ -17,10 +17,11 @@ use Rattle.engine_calls.specs.declared.event.Event.{Event}
 use Rattle.engine_calls.specs.declared.event.Event.TheVariants as event
 use Rattle.engine_calls.specs.declared.refusal.Refusal.{Refusal}
 use Rattle.engine_rules.specs.Asked.{asked}
-use Rattle.engine_rules.specs.EngineState.{EngineState, IsFit, commit_record, end}
+use Rattle.engine_rules.specs.EngineState.{EngineState, IsFit, commit_record, end, volume_pages}
 use Rattle.engine_rules.specs.EngineView.{EngineView}
 use Rattle.engine_rules.specs.Step.{Step, reply_of, written_log_of}
 use Rattle.engine_rules.specs.Uses.{AsksStore, ForcesDevice}
+use Rattle.engine_run.specs.Flushed.{RepliesOf}
 use Rattle.engine_run.specs.Replies.{ForcesCommit, MadeOn, ReadsAt, RepliesBy}
 
 module _ {S D T : Type 0} (pages : store.Ghosts S) (log : device.Ghosts D) (old new : EngineView S D) (event : Event)
@@ -90,6 +91,22 @@ module _ {S D T : Type 0} (pages : store.Ghosts S) (log : device.Ghosts D) (old 
     };
   }
 
+-- ---- the page count after a call
+
+module _ {S D T : Type 0} (pages : store.Ghosts S) (log : device.Ghosts D) (old new : EngineView S D) (event : Event)
+    (answered : T → Answer) where
+  pub replied_of : (result : Result T Refusal) (count : ℕ) → IsFit old.state
+      → Step old.state event (reply_of answered result) new.state
+      → AsksStore pages.gave pages.wrote pages.grew pages.failures (asked old.state event) old result new
+      → ForcesDevice log.called log.synced log.failures log.fails_from old result new
+      → IsGrown new.state.stored (pages.stored new.store) → IsWritten log.bytes (written_log_of new)
+      → volume_pages new.state ≡ count → RepliesOf (MadeOn pages log) event (reply_of answered result) count
+  unfolding replied
+  replied_of result count fit step uses ends stored written is = record {
+    reply = replied pages log old new event answered result fit step uses ends stored written;
+    count = is;
+  }
+
 -- ---- a commit that is answered is forced
 
 -- the Commit comes behind the log
@@ -132,14 +149,14 @@ module _ {S D : Type 0} (pages : store.Ghosts S) (log : device.Ghosts D) (old ne
 -- ---- a read, and where the log ended then
 
 module _ {S D : Type 0} (pages : store.Ghosts S) (log : device.Ghosts D) (old new : EngineView S D) (page slot lsn number : ℕ)
-    where
-  pub reads_at : IsFit old.state → Step old.state (event.Read page slot) (Ok (answer.Number number)) new.state
-      → AsksStore pages.gave pages.wrote pages.grew pages.failures (asked old.state (event.Read page slot)) old (Ok number) new
-      → ForcesDevice log.called log.synced log.failures log.fails_from old (Ok number) new
-      → IsGrown new.state.stored (pages.stored new.store) → IsWritten log.bytes (written_log_of new)
-      → lsn ≡ end old.state → ReadsAt (MadeOn pages log) page slot lsn number
-  unfolding replied
-  reads_at fit step uses ends stored written at = record {
-    reply = replied pages log old new (event.Read page slot) answer.Number (Ok number) fit step uses ends stored written;
-    ended = sym at;
-  }
+  where
+    pub reads_at : IsFit old.state → Step old.state (event.Read page slot) (Ok (answer.Number number)) new.state
+        → AsksStore pages.gave pages.wrote pages.grew pages.failures (asked old.state (event.Read page slot)) old (Ok number) new
+        → ForcesDevice log.called log.synced log.failures log.fails_from old (Ok number) new
+        → IsGrown new.state.stored (pages.stored new.store) → IsWritten log.bytes (written_log_of new)
+        → lsn ≡ end old.state → ReadsAt (MadeOn pages log) page slot lsn number
+    unfolding replied
+    reads_at fit step uses ends stored written at = record {
+      reply = replied pages log old new (event.Read page slot) answer.Number (Ok number) fit step uses ends stored written;
+      ended = sym at;
+    }

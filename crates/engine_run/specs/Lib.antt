@@ -1,5 +1,6 @@
 pub mod Beginning
 pub mod CopyWrite
+pub mod Flushed
 pub mod Given
 pub mod Held
 pub mod Laws

@@ -1,7 +1,8 @@
 //! Image copies of a shared engine, each made by many threads.
 
 ghost use Rattle.std.specs.Prelude.{◌≡◌, ◌≤◌, IfOk};
-ghost use Rattle.engine_run.specs.Work.{IsCopiedAs};
+ghost use Rattle.engine_run.specs.Replies.{MadeOn};
+ghost use Rattle.engine_run.specs.Work.{IsCopiedBy};
 
 use crate::gate::HoldGate;
 use crate::refused::FirstRefusal;
@@ -76,7 +77,7 @@ impl<S: PageStore + Send, D: LogDevice + Send, G: Ledger + Send + Sync> Shared<S
         gate: &H,
     ) -> Result<Work, Refusal>
         requires { (1 ≤ workers) × (workers ≤ 64) }
-        ensures { IfOk result (IsCopiedAs kind) }
+        ensures { IfOk result (IsCopiedBy (MadeOn S.PageStore D.LogDevice) kind) }
     {
         let opened = self.held.lock(rt).open_copy(&kind);
         let (id, pages) = opened?;

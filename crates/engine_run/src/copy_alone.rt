@@ -1,7 +1,8 @@
 //! Image copies of a shared engine, each made by the thread that asks for it.
 
 ghost use Rattle.std.specs.Prelude.{IfOk};
-ghost use Rattle.engine_run.specs.Work.{IsCopiedAs};
+ghost use Rattle.engine_run.specs.Replies.{MadeOn};
+ghost use Rattle.engine_run.specs.Work.{IsCopiedBy};
 
 use crate::gate::HoldGate;
 use crate::shared::Shared;
@@ -24,7 +25,7 @@ impl<S: PageStore, D: LogDevice, G: Ledger> Shared<S, D, G> {
         kind: CopyKind,
         gate: &impl HoldGate,
     ) -> Result<Work, Refusal>
-        ensures { IfOk result (IsCopiedAs kind) }
+        ensures { IfOk result (IsCopiedBy (MadeOn S.PageStore D.LogDevice) kind) }
     {
         let opened = self.held.lock(rt).open_copy(&kind);
         let (id, pages) = opened?;
@@ -59,19 +60,20 @@ impl<S: PageStore, D: LogDevice, G: Ledger> Shared<S, D, G> {
         kind: CopyKind,
         taken: Result<(), Refusal>,
     ) -> Result<Work, Refusal>
-        ensures { IfOk result (IsCopiedAs kind) }
+        ensures { IfOk result (IsCopiedBy (MadeOn S.PageStore D.LogDevice) kind) }
     {
-        let ended = match taken {
-            Ok(()) => self.held.lock(rt).seal(id),
-            Err(why) => Err(why),
-        };
-        match ended {
-            Ok(taken) => Ok(Work::Copied { id, kind, taken }),
-            Err(why) => {
-                // Where the copy is dropped already, there is nothing left to do.
-                let _ = self.held.lock(rt).drop_copy(id);
-                Err(why)
+        let why = match taken {
+            Ok(()) => {
+                let sealed = self.held.lock(rt).seal(id);
+                match sealed {
+                    Ok(taken) => return Ok(Work::Copied { id, kind, taken }),
+                    Err(why) => why,
+                }
             }
-        }
+            Err(why) => why,
+        };
+        // Where the copy is dropped already, there is nothing left to do.
+        let _ = self.held.lock(rt).drop_copy(id);
+        Err(why)
     }
 }

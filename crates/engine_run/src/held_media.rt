@@ -9,6 +9,7 @@ ghost use Rattle.engine_rules.specs.Step.{Step, gather_answer, reply_of, took_an
 ghost use Rattle.engine_rules.specs.Uses.{AsksStore, ForcesDevice};
 ghost use Rattle.engine_calls.specs.declared.event.Answer.TheVariants as answer;
 ghost use Rattle.engine_calls.specs.declared.event.Event.TheVariants as event;
+ghost use Rattle.engine_run.specs.Flushed.{RepliesOf};
 ghost use Rattle.engine_run.specs.Replies.{MadeOn, RepliesBy};
 ghost use Rattle.engine_run.specs.Work.{copy_event};
 
@@ -56,6 +57,28 @@ impl<S: PageStore, D: LogDevice, G: Ledger> Held<S, D, G> {
         self.engine.write_end(page)
     }
 
+    /// Begins to write a page, as `write_begin` does, and tells how many pages the volume has then.
+    pub(crate) fn begin_write(&mut self, page: PageNo) -> (Result<Lsn, Refusal>, u32)
+        ensures { RepliesOf (MadeOn S.PageStore D.LogDevice) (event.WriteBegin page)
+            (reply_of answer.Writing result.0) result.1 }
+    {
+        let _ = self.engine.log_end();
+        let begun = self.engine.write_begin(page);
+        let log = self.engine.log();
+        (begun, log.pages())
+    }
+
+    /// Ends a write of a page, as `write_end` does, and tells how many pages the volume has then.
+    pub(crate) fn end_write(&mut self, page: PageNo) -> (Result<Lsn, Refusal>, u32)
+        ensures { RepliesOf (MadeOn S.PageStore D.LogDevice) (event.WriteEnd page)
+            (reply_of answer.Written result.0) result.1 }
+    {
+        let _ = self.engine.log_end();
+        let ended = self.engine.write_end(page);
+        let log = self.engine.log();
+        (ended, log.pages())
+    }
+
     /// Begins a checkpoint, as `Engine::ckpt_begin` does.
     pub fn ckpt_begin(&mut self) -> Result<Lsn, Refusal>
         ensures step { Step self.old.engine.state event.CkptBegin (reply_of answer.Logged result)
@@ -84,8 +107,13 @@ impl<S: PageStore, D: LogDevice, G: Ledger> Held<S, D, G> {
         ensures store { self.new.engine.store ≡ self.old.engine.store }
         ensures device { ForcesDevice D.called D.synced D.failures D.fails_from self.old.engine
             result self.new.engine }
+        ensures replies { RepliesBy (MadeOn S.PageStore D.LogDevice) event.CkptEnd
+            (reply_of (λ p. answer.Point p.begin p.end p.redo) result) }
     {
-        self.engine.ckpt_end()
+        let _ = self.engine.log_end();
+        let result = self.engine.ckpt_end();
+        let _ = self.engine.log();
+        result
     }
 
     /// Begins a full image copy, as `Engine::copy_full` does.
@@ -151,8 +179,13 @@ impl<S: PageStore, D: LogDevice, G: Ledger> Held<S, D, G> {
             self.new.engine.state }
         ensures store { self.new.engine.store ≡ self.old.engine.store }
         ensures device { self.new.engine.device ≡ self.old.engine.device }
+        ensures replies { RepliesBy (MadeOn S.PageStore D.LogDevice) (event.Seal copy)
+            (reply_of answer.Sealed result) }
     {
-        self.engine.seal(copy)
+        let _ = self.engine.log_end();
+        let result = self.engine.seal(copy);
+        let _ = self.engine.log();
+        result
     }
 
     /// Drops a copy that is being read, as `Engine::drop_copy` does.

@@ -38,7 +38,8 @@ pub use idle::IdleSessions;
 pub use laws::{
     a_free_lock_guards_a_fit_engine, a_peek_is_of_its_slot, a_session_reads_its_own_writes,
     an_acknowledged_commit_is_kept, an_answered_copy_is_new, an_answered_copy_restores,
-    changes_add_up_to_updates, each_change_was_answered_once, each_record_was_answered_once, what_is_wrong_is_not_settled,
+    changes_add_up_to_updates, each_change_was_answered_once, each_record_was_answered_once,
+    what_is_wrong_is_not_settled,
 };
 pub use opened::Opened;
 pub use session::Session;

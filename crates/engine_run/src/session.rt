@@ -122,14 +122,17 @@ impl<G: Ledger> Session<G> {
             .lock(rt)
             .set(txn, page, slot, number, &mut self.share)?;
         self.written += 1;
-        Ok(keep_change(&mut self.receipts, &ChangeReceipt {
-            lsn,
-            txn,
-            page,
-            slot,
-            kind: ChangeKind::Set,
-            number,
-        }))
+        Ok(keep_change(
+            &mut self.receipts,
+            &ChangeReceipt {
+                lsn,
+                txn,
+                page,
+                slot,
+                kind: ChangeKind::Set,
+                number,
+            },
+        ))
     }
 
     /// Adds to the number in a slot, modulo 2^64, and answers the receipt of the change. Refusals
@@ -157,14 +160,17 @@ impl<G: Ledger> Session<G> {
             .lock(rt)
             .add(txn, page, slot, amount, &mut self.share)?;
         self.written += 1;
-        Ok(keep_change(&mut self.receipts, &ChangeReceipt {
-            lsn,
-            txn,
-            page,
-            slot,
-            kind: ChangeKind::Add,
-            number: amount,
-        }))
+        Ok(keep_change(
+            &mut self.receipts,
+            &ChangeReceipt {
+                lsn,
+                txn,
+                page,
+                slot,
+                kind: ChangeKind::Add,
+                number: amount,
+            },
+        ))
     }
 
     /// The number in a slot, with the changes of all transactions so far, and where the log ended

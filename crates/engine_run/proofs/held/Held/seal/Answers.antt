@@ -1,0 +1,13 @@
+use Rattle.std.proofs.Common.{rules}
+use Rattle.engine_calls.specs.declared.event.Answer.TheVariants as answer
+use Rattle.engine_calls.specs.declared.event.Event.TheVariants as event
+use Rattle.engine_run.proofs.Replied.{replied}
+use Rattle.engine_run.proofs.held.Held.seal.Goals as goal
+
+pub returns-clause-replies : goal.returns-clause-replies
+returns-clause-replies g c =
+    let old = c.self.inside.engine in
+    let new = c.seal-result.new.self in
+    replied g.S.PageStore g.D.LogDevice old new (event.Seal c.args.copy) answer.Sealed c.seal-result.result
+    c.log_end.ensures.fit c.seal-result.ensures.step (search rules) (search rules) c.log.ensures.pages
+    c.log.ensures.records
