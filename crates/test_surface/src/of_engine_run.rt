@@ -1,5 +1,6 @@
 //! The engine for many threads.
 
 pub use engine_run::{
-    Held, HoldGate, IdleSessions, Session, SessionDesk, Shared, Unsettled, Work, settle,
+    ChangeReceipt, Held, HoldGate, IdleSessions, ReadReceipt, Session, SessionDesk, Shared,
+    StepReceipt, TxnStep, Unsettled, Work, settle,
 };
