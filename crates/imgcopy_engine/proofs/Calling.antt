@@ -60,6 +60,7 @@ comp_of txn it step.End is undo more of = absurd (more is)
 comp_of txn it step.Begin is undo more of = elim undo [ ]
 comp_of txn it step.Commit is undo more of = elim undo [ ]
 comp_of txn it step.Abort is undo more of = elim undo [ ]
+comp_of txn it step.Unsure is undo more of = elim undo [ ]
 
 pub undid : (txn : ℕ) (it : StepReceipt) (old new : List Receipt) → ¬ (it.step ≡ step.End)
     → (it.txn ≡ txn) × IsUndoStep it.step → new ≡ old ++ Stepped it ∷ []

@@ -26,7 +26,7 @@ pub fn roll_back<C: Calls>(client: &mut C, txn: TxnNo) -> Result<Lsn, Refusal>
     begin_rolling(client, txn)?;
     for _ in 0..MAX_RECORDS {
         let undone = client.undo_step(txn)?;
-        if undone.step == TxnStep::End {
+        if let TxnStep::End = undone.step {
             return Ok(undone.lsn);
         }
     }

@@ -4,18 +4,18 @@ use Rattle.imgcopy_engine.specs.Ending.{GoesBack, not_undone, without_end}
 use Rattle.imgcopy_engine.proofs.Calling.{goes_on, handed_on, took_one_more, undid}
 use Rattle.imgcopy_engine.proofs.ending.roll_back.Goals as goal
 
-pub returns-in_err-lsn-clause-refused : goal.returns-in_err-lsn-clause-refused
-returns-in_err-lsn-clause-refused g c =
-    handed_on c.from_residual-in_err-lsn.result c.in_err-lsn.field-0.0 _ c.from_residual-in_err-lsn.ensures.1
+pub returns-in_err-undone-clause-refused : goal.returns-in_err-undone-clause-refused
+returns-in_err-undone-clause-refused g c =
+    handed_on c.from_residual-in_err-undone.result c.in_err-undone.field-0.0 _ c.from_residual-in_err-undone.ensures.1
     (not_undone c.loop.counter c.loop.client c.loop.invariant.back
-    (record { call = c.in_err-lsn.ensures.called; same = c.in_err-lsn.ensures.refused }))
+    (record { call = c.in_err-undone.ensures.called; same = c.in_err-undone.ensures.refused }))
 
 pub loop-preserved : goal.loop-preserved
 loop-preserved g c =
     let receipts = g.C.Calls.receipts in
     let so_far = c.loop.invariant.back in
-    let one = undid c.args.txn c.in_ok-lsn.field-0 (receipts c.loop.client) (receipts c.undo_step.new.self)
-    c.in_default.not-Ended c.in_ok-lsn.ensures.receipt in
+    let one = undid c.args.txn c.in_ok-undone.undone (receipts c.loop.client) (receipts c.undo_step.new.self)
+    c.in_default.not-End c.in_ok-undone.ensures.names c.in_ok-undone.ensures.receipt in
     record {
       back = record {
         rolling = so_far.rolling;
