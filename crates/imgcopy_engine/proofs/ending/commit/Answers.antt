@@ -13,12 +13,15 @@ returns-in_default g c =
     (g.C.Calls.receipts c.commit.new.self) known c.in-Err.ensures.refused in
     record {
       committed = tt;
-      refused = inr (c.in-Err.why, record {
-        known = known;
-        asked = c.commit.new.self;
-        refused = record { call = c.in-Err.ensures.called; same = same };
-        stopped = c.stopped.ensures.ends;
-      });
+      refused = inr (
+        c.in-Err.why,
+        record {
+          known = known;
+          asked = c.commit.new.self;
+          refused = record { call = c.in-Err.ensures.called; same = same };
+          stopped = c.stopped.ensures.ends;
+        },
+      );
       kept = subst (λ (old : List Receipt). Goes old (g.C.Calls.receipts c.stopped.new.client)) same
           c.stopped.ensures.kept;
     }
