@@ -1,8 +1,8 @@
 # shellcheck shell=bash
 # For the scripts of this folder that source it.
 
-# How many checks are made side by side: as RT_JOBS says, or else one a processor, as far as each has 6 GiB of memory: the
-# largest takes 7 GB, and where memory is short a check takes many times as long, or is killed and made again.
+# How many checks are made side by side: as RT_JOBS says, or else one a processor, as far as each has 5 GiB of memory: the
+# largest takes 6 GB, and where memory is short a check takes many times as long, or is killed and made again.
 lanes() {
     local processors memory limit fit
     if [[ ${RT_JOBS-} =~ ^[1-9][0-9]*$ ]]; then
@@ -15,6 +15,6 @@ lanes() {
     if [[ $limit =~ ^[0-9]+$ ]] && [ $((limit / 1024)) -lt "$memory" ]; then
         memory=$((limit / 1024))
     fi
-    fit=$((memory / 6291456))
+    fit=$((memory / 5242880))
     echo $((fit < 1 ? 1 : fit < processors ? fit : processors))
 }
