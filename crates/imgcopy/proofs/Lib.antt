@@ -1,4 +1,2 @@
 mod ClosingNotes
-mod CopyChains
 mod Statuses
-mod UnfinishedNames

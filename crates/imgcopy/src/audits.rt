@@ -4,16 +4,14 @@ ghost use Rattle.std.specs.Prelude.{◌≡◌, ◌≢◌, ◌⊎◌, IfErr, IfNo
 ghost use Rattle.std.specs.Process.{exit_status};
 ghost use Rattle.script_run.specs.Status.{status_of_audit};
 ghost use Rattle.checked_files.specs.Checked.{bytes_by};
-ghost use Rattle.imgcopy.specs.ReadFiles.{HasRightMaster, IsAudited};
+ghost use Rattle.file_inputs.specs.ReadFiles.{HasRightMaster, IsAudited};
 
-use crate::manifests::Checks;
-use crate::read_once::ReadOnce;
-use crate::reasons::Named;
 use crate::untils::audit_until;
 use crate::{answered, told_unprinted};
 use checked_files::CheckedFiles;
 use copy_audit::{Sound, Unsound};
 use copy_vault::CopyId;
+use file_inputs::{Checks, InputNames, ReadOnce};
 use file_view::ViewFault;
 use page_core::PageNo;
 use saved_files::{NamedFiles, audit_files, check_master, unsound_pages};
@@ -24,7 +22,7 @@ use system_files::{Notes, SystemFiles};
 /// Audits a chain of copies against a log, and the master record first, if one is named. The log
 /// counts up to the record at an LSN, if one is told: then no master record is read. What reads the
 /// log twice reads it once where it is no regular file.
-pub fn audit(rt: &HostRuntime, names: &Named<'_>, all: bool) -> ExitCode {
+pub fn audit(rt: &HostRuntime, names: &InputNames<'_>, all: bool) -> ExitCode {
     let notes = Notes::new();
     let Some(checks) = Checks::of(rt, names) else {
         return ExitCode::from(FAULT_STATUS);
@@ -37,7 +35,11 @@ pub fn audit(rt: &HostRuntime, names: &Named<'_>, all: bool) -> ExitCode {
 }
 
 /// The same, of files of which it is known what manifests say.
-fn audit_known(rt: &HostRuntime, read: (&Named<'_>, &Notes, &Checks<'_>), all: bool) -> ExitCode {
+fn audit_known(
+    rt: &HostRuntime,
+    read: (&InputNames<'_>, &Notes, &Checks<'_>),
+    all: bool,
+) -> ExitCode {
     let (names, notes, _) = read;
     if let Some(until) = names.until {
         return audit_until(rt, read, all, until);
@@ -55,7 +57,7 @@ fn audit_known(rt: &HostRuntime, read: (&Named<'_>, &Notes, &Checks<'_>), all: b
 /// Tells that an input that can be read but once was not read whole.
 pub fn told_unkept(
     rt: &HostRuntime,
-    read: (&Named<'_>, &Notes, &Checks<'_>),
+    read: (&InputNames<'_>, &Notes, &Checks<'_>),
     fault: &ViewFault,
 ) -> ExitCode {
     let (names, notes, checks) = read;
@@ -72,7 +74,7 @@ pub fn told_unkept(
 pub fn audit_checked<N: NamedFiles>(
     rt: &HostRuntime,
     files: &N,
-    read: (&Named<'_>, &Notes, &Checks<'_>),
+    read: (&InputNames<'_>, &Notes, &Checks<'_>),
     all: bool,
 ) -> ExitCode
     ensures { exit_status result ≡ 0
@@ -91,7 +93,7 @@ pub fn audit_checked<N: NamedFiles>(
 fn audit_in<N: NamedFiles>(
     rt: &HostRuntime,
     files: &N,
-    names: &Named<'_>,
+    names: &InputNames<'_>,
     notes: &Notes,
     all: bool,
     checks: &Checks<'_>,
@@ -118,7 +120,7 @@ fn audit_in<N: NamedFiles>(
 fn refused_master<N: NamedFiles>(
     rt: &HostRuntime,
     files: &N,
-    names: &Named<'_>,
+    names: &InputNames<'_>,
     notes: &Notes,
     checks: &Checks<'_>,
 ) -> Option<ExitCode>
@@ -139,7 +141,7 @@ fn refused_master<N: NamedFiles>(
 fn told_others<N: NamedFiles>(
     rt: &HostRuntime,
     files: &N,
-    names: &Named<'_>,
+    names: &InputNames<'_>,
     first: (CopyId, PageNo),
     status: ExitCode,
 ) -> ExitCode

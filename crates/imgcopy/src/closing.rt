@@ -3,10 +3,7 @@
 ghost use Rattle.database_files.specs.Found.{IsReadOf, SpellsNumber};
 ghost use Rattle.imgcopy.specs.Closing.{SpellsEnd};
 
-use crate::list::tell_irregular;
-use crate::manifests::{is_absent, may_be_read};
-use crate::noted;
-use crate::reasons::tell_view;
+use file_inputs::{is_absent, may_be_read, noted, tell_irregular, tell_view};
 use file_view::{ViewFault, read_file};
 use page_core::Lsn;
 use std::alloc::AllocError;

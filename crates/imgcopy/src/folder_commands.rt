@@ -6,9 +6,9 @@ ghost use Rattle.database_backup.specs.Backups.{WasBackedUp};
 ghost use Rattle.database_backup.specs.ClosedVolume.{WasRenewed};
 ghost use Rattle.imgcopy.specs.Ends.{status_of_closed};
 
-use crate::leftovers::{UNFINISHED_NAME, is_unfinished};
-use crate::output::{parts_of, tell};
 use database_backup::{BackupCall, RenewCall, backup_folder, renew_folder};
+use file_inputs::parts_of;
+use file_outputs::{UNFINISHED_NAME, is_unfinished, tell};
 use open_database::OpenEnd;
 use script_run::FAULT_STATUS;
 use sqlite_disk::Start;

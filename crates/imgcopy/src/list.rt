@@ -1,25 +1,18 @@
 //! The command `list`.
 
-use crate::advice::tell_unwritten;
 use crate::listed_sums::are_named;
-use crate::manifests::manifest_for;
-use crate::reasons::{Reason, tell_view};
-use crate::view::bytes_of;
-use crate::{noted, patient};
 use checked_files::ManifestUse;
-use copy_vault::ArchiveFault;
-use file_view::{
-    CopyFlaw, CopyHeader, Form, LogFacts, Rows, ViewFault, facts_of, put_copies, put_log,
-    read_copy_header,
+use file_inputs::{
+    Reason, bytes_of, header_of, ids_in, is_irregular, manifest_for, noted, patient,
+    tell_irregular, tell_unwritten, tell_view,
 };
-use log_records::HEADER_BYTES;
+use file_view::{CopyFlaw, Form, LogFacts, Rows, ViewFault, facts_of, put_copies, put_log};
 use page_core::write_out;
 use script_run::FAULT_STATUS;
 use std::alloc::AllocError;
-use std::io::Read;
+use std::io;
 use std::process::ExitCode;
-use std::{fs, io};
-use system_files::{Escaped, Notes, copy_id};
+use system_files::{Escaped, Notes};
 
 /// Lists the copies of a folder, and what restores of them would do. It goes on behind a file that
 /// is wrong, or is not the one that the manifest names, which is told, and the status is that of a
@@ -42,30 +35,6 @@ pub fn list(rt: &HostRuntime, folder: &str, form: Form, manifest: ManifestUse<'_
 fn told(rt: &impl Eprint, fault: &ViewFault) -> ExitCode {
     let _ = rt.eprintln(fault);
     ExitCode::from(FAULT_STATUS)
-}
-
-/// The ids of the copies of a folder, as their names say, in their order. Where the folder cannot
-/// be read, that is told.
-pub fn ids_in(rt: &HostRuntime, folder: &str) -> Result<Vec<u32>, ViewFault> {
-    let mut ids = Vec::new(rt.alloc());
-    let entries = match fs::read_dir(rt, folder) {
-        Ok(entries) => entries,
-        Err(error) => {
-            let folder = Escaped(folder);
-            let _ = eprintln!(rt; "imgcopy: {folder}: {error}");
-            return Err(ViewFault::ReadFault);
-        }
-    };
-    for entry in entries {
-        let Ok(entry) = entry else {
-            return Err(ViewFault::ReadFault);
-        };
-        if let Some(id) = copy_id(entry.file_name()) {
-            ids.push(id)?;
-        }
-    }
-    ids.sort_unstable();
-    Ok(ids)
 }
 
 /// Lists the log and the copies of these ids. Answers whether all of them are right and all lines
@@ -143,75 +112,6 @@ fn tell_flaws(rt: &impl Eprint, folder: &str, rows: &Rows, log: &Option<LogFacts
     is_right
 }
 
-/// The header of the copy of this id, and how many bytes its file has. Where the file has no
-/// header, or that of another copy, this is told.
-pub fn header_of(
-    rt: &HostRuntime,
-    folder: &str,
-    id: u32,
-) -> Result<Option<(CopyHeader, u64)>, AllocError> {
-    let name = format!(in rt.alloc(); "{folder}/copy-{id}")?;
-    let notes = Notes::new();
-    let Some(bytes) = length_of(rt, name.as_str(), &notes) else {
-        return Ok(None);
-    };
-    let header = match header_at(rt, name.as_str(), &notes) {
-        Ok(header) => header,
-        Err(fault) => {
-            let _ = rt.eprintln(&fault);
-            tell_view(rt, name.as_str(), &fault, &notes);
-            return Ok(None);
-        }
-    };
-    if header.id != id {
-        let (there, name) = (header.id, Escaped(name.as_str()));
-        let _ = eprintln!(rt; "imgcopy: {name}: is copy {there}");
-        return Ok(None);
-    }
-    Ok(Some((header, bytes)))
-}
-
-/// How many bytes a regular file has. Another one is not opened, since its reader may wait for
-/// ever; this is told.
-fn length_of(rt: &HostRuntime, name: &str, notes: &Notes) -> Option<u64> {
-    let there = fs::metadata(rt, name);
-    notes.note(&there);
-    match there {
-        Ok(there) if there.is_file() => Some(there.len()),
-        Ok(_) => {
-            tell_irregular(rt, name);
-            None
-        }
-        Err(_) => {
-            let fault = ViewFault::ReadFault;
-            let _ = rt.eprintln(&fault);
-            tell_view(rt, name, &fault, notes);
-            None
-        }
-    }
-}
-
-/// Tells that a file of this name is a folder, a pipe or a device: none of these is opened.
-pub fn tell_irregular(rt: &impl Eprint, name: &str) {
-    let name = Escaped(name);
-    let _ = rt.eprintln(&ViewFault::ReadFault);
-    let _ = eprintln!(rt; "imgcopy: {name}: this is no regular file");
-}
-
-/// The header of an archive, of which nothing else is read.
-fn header_at(rt: &HostRuntime, name: &str, notes: &Notes) -> Result<CopyHeader, ViewFault> {
-    let opened = fs::open(rt, name);
-    notes.note(&opened);
-    let Ok(file) = opened else {
-        return Err(ViewFault::ReadFault);
-    };
-    let mut bytes = [0; HEADER_BYTES];
-    match noted(file, notes).read_exact(&mut bytes) {
-        Ok(()) => Ok(read_copy_header(rt.alloc(), &bytes)?),
-        Err(_) => Err(ViewFault::Archive(ArchiveFault::BadArchive(0))),
-    }
-}
-
 /// Writes the lines, and says whether all went out.
 pub fn written(rt: &HostRuntime, text: &str) -> bool {
     let output = Notes::new();
@@ -265,14 +165,6 @@ fn is_log_right(rt: &HostRuntime, name: &str, fault: Option<ViewFault>, notes: &
     let _ = rt.eprintln(&fault);
     tell_view(rt, name, &fault, notes);
     false
-}
-
-/// Whether what stands at this place is no regular file: of a pipe an open may never end.
-pub fn is_irregular(rt: &HostRuntime, name: &str) -> bool {
-    match fs::metadata(rt, name) {
-        Ok(there) => !there.is_file(),
-        Err(_) => false,
-    }
 }
 
 /// The bytes of a log. What is no regular file is not opened.

@@ -1,7 +1,7 @@
 //! What `list` compares with a manifest: how many bytes the copies have, and the log, which it reads.
 
-use crate::manifests::{OtherFile, tell_unnamed};
 use checked_files::{Known, ManifestUse, ReadFile, fits_length, known_file};
+use file_inputs::{OtherFile, tell_unnamed};
 use file_view::Rows;
 use manifest::{Extent, FileSum, Manifest, Sums};
 use std::alloc::AllocError;

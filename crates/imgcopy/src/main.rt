@@ -9,56 +9,39 @@ ghost use Rattle.open_database.specs.WholeLives.{LivedByAllLines};
 ghost use Rattle.script_run.specs.Status.{status_of_finish};
 ghost use Rattle.imgcopy.specs.Ends.{status_of_opened};
 
-mod advice;
 mod audits;
-mod chain_reason;
 mod closing;
-mod copy_chain;
 mod folder_commands;
-mod headers;
-mod leftovers;
 mod list;
 mod listed_sums;
-mod manifest_output;
-mod manifests;
-mod output;
-mod output_folder;
 mod program_fault;
-mod read_once;
-mod reasons;
-mod redone_volume;
 mod restore_folder;
 mod restores;
-mod save_folder;
-mod saving;
+mod script_lines;
 mod strict;
 mod untils;
 mod verify;
 mod view;
-mod volume_output;
 
-use advice::{tell_script, tell_unread, tell_unwritten};
 use aries_core::Setup;
 use audits::audit;
 use checked_files::ManifestUse;
 use command_words::{Command, command_of, words_of};
 use database_backup::BackupCall;
 use event_script::MAX_SCRIPT_BYTES;
+use file_inputs::{InputNames, noted, patient, tell_redo, tell_unread, tell_unwritten};
+use file_outputs::{Inputs, Limits, OutputFolder, RedoneVolume, Saving, VolumeOutput, tell_output};
 use file_view::{Form, Wanted};
 use folder_commands::{backup, renew};
 use list::list;
 use open_database::{OpenCall, OpenEnd, open_folder};
-use output::{Inputs, Limits, tell_output};
-use output_folder::OutputFolder;
 use page_core::{FaultName, Lsn, PageNo, TxnNo};
 use page_redo::{StreamFault, redo_stream};
 use program_fault::ProgramFault;
-use reasons::{Named, tell_redo};
-use redone_volume::RedoneVolume;
 use restore_folder::{FolderRestore, restore_folder};
 use restores::{Outputs, restore};
 use saved_files::{PutFault, PutStoredFault, put_and_store};
-use saving::Saving;
+use script_lines::tell_script;
 use script_run::{
     FAULT_STATUS, FinishFault, REFUSED_STATUS, Ran, ScriptRunFault, finish_script, refused_status,
     run_script,
@@ -70,11 +53,10 @@ use std::process::ExitCode;
 use std::thread::Threads;
 use std::{fmt, io};
 use strict::{Kept, Refusals, Tallied, line_of_call};
-use system_files::{EscapedText, Noted, Notes, RetryWouldBlock};
+use system_files::{EscapedText, Notes};
 use untils::{redo_until_into, redo_until_out};
 use verify::verify;
 use view::show;
-use volume_output::VolumeOutput;
 
 /// How many bytes of a script are kept at most, to show a bad line.
 const MOST_KEPT: usize = 65_536;
@@ -152,7 +134,7 @@ fn main(rt: HostRuntime) -> ExitCode {
             let Some(manifest) = ManifestUse::of(manifest, no_manifest) else {
                 return told(&rt, &ProgramFault::TwoManifests);
             };
-            let names = Named {
+            let names = InputNames {
                 log,
                 master: Some(master),
                 archives: &archives,
@@ -208,7 +190,7 @@ fn main(rt: HostRuntime) -> ExitCode {
             let Some(manifest) = ManifestUse::of(manifest, no_manifest) else {
                 return told(&rt, &ProgramFault::TwoManifests);
             };
-            let names = Named {
+            let names = InputNames {
                 log,
                 master,
                 archives: &archives,
@@ -342,7 +324,10 @@ fn redo_into(rt: &HostRuntime, path: &str, force: bool) -> ExitCode {
             }
             status
         }
-        Err(fault) => folder.tell_unput(&fault),
+        Err(fault) => {
+            folder.tell_unput(&fault);
+            ExitCode::from(FAULT_STATUS)
+        }
     }
 }
 
@@ -543,17 +528,4 @@ fn status_of(rt: &impl Eprint, done: &Result<(), StreamFault>) -> ExitCode
         Ok(()) => ExitCode::SUCCESS,
         Err(fault) => told(rt, &ProgramFault::from(*fault)),
     }
-}
-
-/// A standard stream of which it is noted why a call failed.
-pub(crate) fn noted<'a, F>(stream: F, notes: &'a Notes) -> Noted<'a, F> {
-    Noted {
-        file: stream,
-        notes,
-    }
-}
-
-/// A standard stream that is waited for where another one made its calls such that they do not.
-pub(crate) fn patient<'a, F>(rt: &'a HostRuntime, stream: F) -> RetryWouldBlock<'a, F> {
-    RetryWouldBlock { stream, rt }
 }

@@ -1,12 +1,12 @@
 //! The command `restore` with a folder: which of the chains of copies there it takes.
 
-use crate::copy_chain::{chain_of, newest_chain};
-use crate::list::{header_of, ids_in, is_irregular, tell_irregular};
-use crate::reasons::Named;
 use crate::restores::{Ended, Outputs, restore};
 use checked_files::ManifestUse;
 use command_words::RESTORE_USAGE;
 use copy_vault::CopyId;
+use file_inputs::{
+    InputNames, chain_of, header_of, ids_in, is_irregular, newest_chain, tell_irregular,
+};
 use file_view::{CopyHeader, ViewFault};
 use media_restore::RestoreFault;
 use page_core::Lsn;
@@ -200,7 +200,7 @@ fn restore_chain(
     for name in &files {
         archives.push(name.as_str())?;
     }
-    let names = Named {
+    let names = InputNames {
         log: log.as_str(),
         master: Some(master.as_str()),
         archives: &archives,

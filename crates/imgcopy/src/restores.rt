@@ -7,15 +7,13 @@ ghost use Rattle.script_run.specs.Status.{status_of_restore};
 ghost use Rattle.imgcopy.specs.Ends.{status_of_end};
 ghost use Rattle.imgcopy.specs.declared.restores.Ended.TheVariants.{Well};
 
-use crate::advice::tell_unwritten;
-use crate::manifests::Checks;
-use crate::output::{Inputs, Limits, have_one_folder, is_one_place, tell, tell_output};
-use crate::output_folder::OutputFolder;
-use crate::reasons::{FIRST_ARCHIVE, Named};
+use crate::refused_terminal;
 use crate::untils::restore_until;
-use crate::volume_output::VolumeOutput;
-use crate::{noted, patient, refused_terminal};
 use checked_files::CheckedFiles;
+use file_inputs::{Checks, FIRST_ARCHIVE, InputNames, noted, patient, tell_unwritten};
+use file_outputs::{
+    Inputs, Limits, OutputFolder, VolumeOutput, have_one_folder, is_one_place, tell, tell_output,
+};
 use media_restore::{RestoreFault, WithLogFault};
 use saved_files::{
     NamedFiles, PutBothFault, PutFault, PutStoredFault, RestoreNames, Which, put_restored_both,
@@ -69,7 +67,7 @@ impl Ended {
 pub fn restore(
     rt: &HostRuntime,
     threads: &(impl Threads + Sync),
-    names: &Named<'_>,
+    names: &InputNames<'_>,
     master: &str,
     outputs: Outputs<'_>,
 ) -> Ended {
@@ -88,7 +86,7 @@ pub fn restore(
 fn restore_checked(
     rt: &HostRuntime,
     threads: &(impl Threads + Sync),
-    read: (&Named<'_>, &Notes, &Checks<'_>),
+    read: (&InputNames<'_>, &Notes, &Checks<'_>),
     master: &str,
     outputs: Outputs<'_>,
 ) -> Ended {
@@ -105,7 +103,7 @@ pub fn restore_from<N: NamedFiles>(
     rt: &HostRuntime,
     threads: &(impl Threads + Sync),
     files: &N,
-    read: (&Named<'_>, &Notes, &Checks<'_>),
+    read: (&InputNames<'_>, &Notes, &Checks<'_>),
     master: &str,
     outputs: Outputs<'_>,
 ) -> Ended {
@@ -144,7 +142,7 @@ fn restore_out<N: NamedFiles>(
     rt: &HostRuntime,
     threads: &(impl Threads + Sync),
     files: &N,
-    read: (&Named<'_>, &Notes, &Checks<'_>),
+    read: (&InputNames<'_>, &Notes, &Checks<'_>),
     from: RestoreNames<'_>,
 ) -> Ended {
     let output = Notes::new();
@@ -165,7 +163,7 @@ fn restore_into<N: NamedFiles>(
     rt: &HostRuntime,
     threads: &(impl Threads + Sync),
     files: &N,
-    read: (&Named<'_>, &Notes, &Checks<'_>),
+    read: (&InputNames<'_>, &Notes, &Checks<'_>),
     from: RestoreNames<'_>,
     output: (&str, Limits<'_>),
 ) -> Ended {
@@ -179,7 +177,10 @@ fn restore_into<N: NamedFiles>(
         Err(PutStoredFault::Unput(PutFault::Unwritten(fault))) => {
             told(rt, read, &Err(fault), (Some(path), &written))
         }
-        Err(fault) => Ended::refused(folder.tell_unput(&fault)),
+        Err(fault) => {
+            folder.tell_unput(&fault);
+            Ended::refused(ExitCode::from(FAULT_STATUS))
+        }
     }
 }
 
@@ -189,7 +190,7 @@ fn restore_log_into<N: NamedFiles>(
     rt: &HostRuntime,
     threads: &(impl Threads + Sync),
     files: &N,
-    read: (&Named<'_>, &Notes, &Checks<'_>),
+    read: (&InputNames<'_>, &Notes, &Checks<'_>),
     from: RestoreNames<'_>,
     output: (&str, Limits<'_>),
 ) -> Ended {
@@ -206,7 +207,10 @@ fn restore_log_into<N: NamedFiles>(
         Err(PutStoredFault::Unput(PutFault::Unwritten(fault))) => {
             told_with_log(rt, read, fault, (None, &output), (Some(log), &written))
         }
-        Err(fault) => Ended::refused(folder.tell_unput(&fault)),
+        Err(fault) => {
+            folder.tell_unput(&fault);
+            Ended::refused(ExitCode::from(FAULT_STATUS))
+        }
     }
 }
 
@@ -218,7 +222,7 @@ fn restore_both_into<N: NamedFiles>(
     rt: &HostRuntime,
     threads: &(impl Threads + Sync),
     files: &N,
-    read: (&Named<'_>, &Notes, &Checks<'_>),
+    read: (&InputNames<'_>, &Notes, &Checks<'_>),
     from: RestoreNames<'_>,
     outputs: (&str, &str, Limits<'_>),
 ) -> Ended {
@@ -262,7 +266,7 @@ fn restore_both_into<N: NamedFiles>(
 /// The same as `told`, where the log was to be written, too.
 fn told_with_log(
     rt: &HostRuntime,
-    read: (&Named<'_>, &Notes, &Checks<'_>),
+    read: (&InputNames<'_>, &Notes, &Checks<'_>),
     fault: WithLogFault,
     volume: (Option<&str>, &Notes),
     log: (Option<&str>, &Notes),
@@ -279,7 +283,7 @@ fn told_with_log(
 /// this path, or on standard output.
 fn told(
     rt: &HostRuntime,
-    read: (&Named<'_>, &Notes, &Checks<'_>),
+    read: (&InputNames<'_>, &Notes, &Checks<'_>),
     done: &Result<(), RestoreFault>,
     output: (Option<&str>, &Notes),
 ) -> Ended
@@ -297,7 +301,7 @@ fn told(
 /// Tells where a fault was met that was told.
 fn tell_met(
     rt: &HostRuntime,
-    read: (&Named<'_>, &Notes, &Checks<'_>),
+    read: (&InputNames<'_>, &Notes, &Checks<'_>),
     fault: &RestoreFault,
     output: (Option<&str>, &Notes),
 ) {

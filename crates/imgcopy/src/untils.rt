@@ -3,16 +3,14 @@
 ghost use Rattle.std.specs.Prelude.{◌≡◌};
 ghost use Rattle.std.specs.Process.{exit_status};
 
-use crate::advice::{tell_input, tell_input_until, tell_until, tell_unwritten};
+use crate::answered;
 use crate::audits::{audit_checked, told_unkept};
-use crate::manifests::Checks;
-use crate::output::{Inputs, Limits, tell_output};
-use crate::output_folder::OutputFolder;
-use crate::read_once::ReadOnce;
-use crate::reasons::Named;
-use crate::redone_volume::RedoneUntil;
 use crate::restores::{Ended, Outputs, restore_from};
-use crate::{answered, noted, patient};
+use file_inputs::{
+    Checks, InputNames, ReadOnce, noted, patient, tell_input, tell_input_until, tell_until,
+    tell_unwritten,
+};
+use file_outputs::{Inputs, Limits, OutputFolder, RedoneUntil, tell_output};
 use file_view::ViewFault;
 use media_restore::{RestoreFault, UntilFault, redo_until};
 use page_core::Lsn;
@@ -28,13 +26,13 @@ use system_files::Notes;
 pub fn restore_until(
     rt: &HostRuntime,
     threads: &(impl Threads + Sync),
-    read: (&Named<'_>, &Notes, &Checks<'_>),
+    read: (&InputNames<'_>, &Notes, &Checks<'_>),
     master: &str,
     outputs: Outputs<'_>,
     until: Lsn,
 ) -> Ended {
     let (names, notes, _) = read;
-    let log = Named {
+    let log = InputNames {
         log: names.log,
         master: None,
         archives: &[],
@@ -57,7 +55,12 @@ pub fn restore_until(
 }
 
 /// Tells that a log that can be read but once was not read whole.
-fn told_unread(rt: &HostRuntime, log: &Named<'_>, fault: &ViewFault, notes: &Notes) -> ExitCode {
+fn told_unread(
+    rt: &HostRuntime,
+    log: &InputNames<'_>,
+    fault: &ViewFault,
+    notes: &Notes,
+) -> ExitCode {
     let fault = match fault {
         ViewFault::OutOfMemory => RestoreFault::OutOfMemory,
         _ => RestoreFault::ReadFault,
@@ -71,12 +74,12 @@ fn told_unread(rt: &HostRuntime, log: &Named<'_>, fault: &ViewFault, notes: &Not
 /// is read twice, and no master record.
 pub fn audit_until(
     rt: &HostRuntime,
-    read: (&Named<'_>, &Notes, &Checks<'_>),
+    read: (&InputNames<'_>, &Notes, &Checks<'_>),
     all: bool,
     until: Lsn,
 ) -> ExitCode {
     let (names, notes, checks) = read;
-    let names = &Named {
+    let names = &InputNames {
         log: names.log,
         master: None,
         archives: names.archives,
@@ -143,7 +146,10 @@ pub fn redo_until_into(rt: &HostRuntime, path: &str, force: bool, until: Lsn) ->
             }
             status
         }
-        Err(fault) => folder.tell_unput(&fault),
+        Err(fault) => {
+            folder.tell_unput(&fault);
+            ExitCode::from(FAULT_STATUS)
+        }
     }
 }
 

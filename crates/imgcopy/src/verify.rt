@@ -1,10 +1,10 @@
 //! The command `verify`.
 
 use crate::closing::{Closing, closing_of};
-use crate::list::{has_right_log, header_of, ids_in, is_irregular, written};
-use crate::manifests::{length_at, manifest_for};
+use crate::list::{has_right_log, written};
 use checked_files::{Known, ManifestUse, ReadFile, known_file};
 use copy_audit::{Sound, Unsound};
+use file_inputs::{header_of, ids_in, is_irregular, length_at, manifest_for};
 use file_view::{CopyHeader, ViewFault};
 use manifest::{Extent, FileSum, Manifest, sum_rest};
 use page_core::zeros;

@@ -3,13 +3,11 @@
 ghost use Rattle.std.specs.Prelude.{◌≡◌, IfErr, OnOk};
 ghost use Rattle.std.specs.Process.{exit_status};
 
-use crate::advice::tell_unwritten;
-use crate::reasons::tell_view;
-use crate::{noted, patient};
-use file_view::{Form, ViewFault, Wanted, read_file, show_file};
+use file_inputs::{bytes_of, noted, patient, tell_unwritten, tell_view};
+use file_view::{Form, ViewFault, Wanted, show_file};
 use script_run::FAULT_STATUS;
+use std::io;
 use std::process::ExitCode;
-use std::{fs, io};
 use system_files::Notes;
 
 /// Shows a file.
@@ -41,16 +39,6 @@ fn shown(
         form,
         &mut noted(patient(rt, io::writer(rt)), output),
     )
-}
-
-/// The bytes of the file of this name.
-pub fn bytes_of(rt: &HostRuntime, name: &str, notes: &Notes) -> Result<Vec<u8>, ViewFault> {
-    let opened = fs::open(rt, name);
-    notes.note(&opened);
-    match opened {
-        Ok(file) => read_file(rt.alloc(), &mut noted(file, notes)),
-        Err(_) => Err(ViewFault::ReadFault),
-    }
 }
 
 /// Tells why a file is not shown to its end, and answers the program's status.

@@ -1,0 +1,3 @@
+pub mod CopyChain
+pub mod Manifests
+pub mod ReadFiles

@@ -1,0 +1,2 @@
+pub mod Unfinished
+pub mod VolumeOutputs

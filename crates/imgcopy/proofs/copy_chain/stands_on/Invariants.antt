@@ -1,6 +1,0 @@
-use Rattle.std.proofs.Common.{◌≡◌, drop}
-use Rattle.imgcopy.specs.CopyChain.{parent_of}
-use Rattle.imgcopy.proofs.copy_chain.stands_on.Given as goal
-
-abbrev pub invariant-loop-header : goal.invariant-loop-header
-invariant-loop-header l = parent_of (drop l.header-index l.headers) l.id ≡ parent_of l.headers l.id
