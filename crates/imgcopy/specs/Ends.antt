@@ -1,15 +1,7 @@
 -- How a command ended, and the program's status then.
 use Rattle.std.specs.Prelude.{ℕ}
-use Rattle.std.specs.Process.{exit_status}
-use Rattle.imgcopy.specs.declared.restores.Ended.{Ended}
-use Rattle.imgcopy.specs.declared.restores.Ended.TheVariants as restore
 use Rattle.open_database.specs.declared.open.OpenEnd.{OpenEnd}
 use Rattle.open_database.specs.declared.open.OpenEnd.TheVariants.{Failed, Refused, Well}
-
--- that of a restore: 0 where all went well, and else that with which the fault was told
-abbrev pub status_of_end : Ended → ℕ
-status_of_end restore.Well = 0
-status_of_end (restore.Told status archive) = exit_status status
 
 -- that of a database that was open: 0 where all went well, 1 where a line was refused that was not
 -- to be, and 2 where it was not opened or something failed

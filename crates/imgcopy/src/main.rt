@@ -1,7 +1,7 @@
 //! The program: its words, its input and output, and its status.
 #![tactic(auto)]
 
-ghost use Rattle.std.specs.Prelude.{ℕ, ◌≡◌, ◌≢◌, ◌⊎◌, IfErr, IfSome, List, None, OnOk, Option};
+ghost use Rattle.std.specs.Prelude.{ℕ, ◌≡◌, ◌≢◌, IfErr, IfSome, List, None, OnOk, Option};
 ghost use Rattle.std.specs.Process.{exit_status};
 ghost use Rattle.buffer_pool.specs.Pool.{IsFrameCount};
 ghost use Rattle.log_records.specs.Log.{IsPageCount};
@@ -9,38 +9,32 @@ ghost use Rattle.open_database.specs.WholeLives.{LivedByAllLines};
 ghost use Rattle.script_run.specs.Status.{status_of_finish};
 ghost use Rattle.imgcopy.specs.Ends.{status_of_opened};
 
-mod audits;
 mod closing;
 mod folder_commands;
 mod list;
 mod listed_sums;
 mod program_fault;
-mod restore_folder;
-mod restores;
 mod script_lines;
 mod strict;
-mod untils;
 mod verify;
-mod view;
 
 use aries_core::Setup;
-use audits::audit;
 use checked_files::ManifestUse;
 use command_words::{Command, command_of, words_of};
 use database_backup::BackupCall;
 use event_script::MAX_SCRIPT_BYTES;
-use file_inputs::{InputNames, noted, patient, tell_redo, tell_unread, tell_unwritten};
-use file_outputs::{Inputs, Limits, OutputFolder, RedoneVolume, Saving, VolumeOutput, tell_output};
+use file_commands::{
+    FolderRestore, Outputs, answered, audit_named, redo_log, restore_folder, restore_named,
+    show_named, told,
+};
+use file_inputs::{InputNames, noted, patient, tell_unwritten};
+use file_outputs::{Saving, VolumeOutput};
 use file_view::{Form, Wanted};
 use folder_commands::{backup, renew};
 use list::list;
 use open_database::{OpenCall, OpenEnd, open_folder};
-use page_core::{FaultName, Lsn, PageNo, TxnNo};
-use page_redo::{StreamFault, redo_stream};
+use page_core::{Lsn, PageNo, TxnNo};
 use program_fault::ProgramFault;
-use restore_folder::{FolderRestore, restore_folder};
-use restores::{Outputs, restore};
-use saved_files::{PutFault, PutStoredFault, put_and_store};
 use script_lines::tell_script;
 use script_run::{
     FAULT_STATUS, FinishFault, REFUSED_STATUS, Ran, ScriptRunFault, finish_script, refused_status,
@@ -54,9 +48,7 @@ use std::thread::Threads;
 use std::{fmt, io};
 use strict::{Kept, Refusals, Tallied, line_of_call};
 use system_files::{EscapedText, Notes};
-use untils::{redo_until_into, redo_until_out};
 use verify::verify;
-use view::show;
 
 /// How many bytes of a script are kept at most, to show a bad line.
 const MOST_KEPT: usize = 65_536;
@@ -67,18 +59,16 @@ fn main(rt: HostRuntime) -> ExitCode {
         Err(fault) => return told_whole(&rt, &EscapedText(&fault)),
     };
     match command_of(rt.alloc(), words.as_slice()) {
-        Ok(Command::Redo) => redo_out(&rt, VolumeOutput::Piped, None),
+        Ok(Command::Redo) => redo_log(&rt, VolumeOutput::Piped, false, None),
         Ok(
             Command::RedoInto {
                 output,
                 force,
                 until,
             },
-        ) => match (VolumeOutput::of(output), lsn_of(until)) {
-            (VolumeOutput::Piped, _) if force => told(&rt, &ProgramFault::NoOutput),
-            (VolumeOutput::File(path), None) => redo_into(&rt, path, force),
-            (VolumeOutput::File(path), Some(until)) => redo_until_into(&rt, path, force, until),
-            (output, until) => redo_out(&rt, output, until),
+        ) => match VolumeOutput::of(output) {
+            VolumeOutput::Piped if force => told(&rt, &ProgramFault::NoOutput),
+            output => redo_log(&rt, output, force, lsn_of(until)),
         },
         Ok(
             Command::Run {
@@ -146,7 +136,7 @@ fn main(rt: HostRuntime) -> ExitCode {
                 log: log_output,
                 force,
             };
-            restore(&rt, &rt, &names, master, outputs).status()
+            restore_named(&rt, &rt, &names, master, outputs).status()
         }
         Ok(
             Command::RestoreFolder {
@@ -197,7 +187,7 @@ fn main(rt: HostRuntime) -> ExitCode {
                 until: lsn_of(until),
                 manifest,
             };
-            audit(&rt, &names, all)
+            audit_named(&rt, &names, all)
         }
         Ok(
             Command::Show {
@@ -217,7 +207,7 @@ fn main(rt: HostRuntime) -> ExitCode {
                 page: page.map(|number| PageNo(number)),
                 commits,
             };
-            show(&rt, file, &wanted, form_of(json))
+            show_named(&rt, file, &wanted, form_of(json))
         }
         Ok(
             Command::ListFolder {
@@ -268,78 +258,6 @@ fn form_of(json: bool) -> Form {
 
 fn lsn_of(number: Option<u32>) -> Option<Lsn> {
     Some(Lsn(number? as u64))
-}
-
-/// Rebuilds the volume of the log on standard input, up to the record at an LSN, if one is told.
-fn redo_out(rt: &HostRuntime, output: VolumeOutput<'_>, until: Option<Lsn>) -> ExitCode {
-    if output.is_barred(rt) {
-        return refused_terminal(rt);
-    }
-    match until {
-        Some(until) => redo_until_out(rt, until),
-        None => redo(rt),
-    }
-}
-
-/// Rebuilds the volume of all of the log on standard input.
-fn redo(rt: &HostRuntime) -> ExitCode {
-    let (input, output) = (Notes::new(), Notes::new());
-    let done = redo_stream(
-        rt.alloc(),
-        &mut noted(patient(rt, rt.stdin()), &input),
-        &mut noted(patient(rt, io::writer(rt)), &output),
-    );
-    let status = status_of(rt, &done);
-    match &done {
-        Err(StreamFault::ReadFault) => tell_unread(rt, &input),
-        Err(StreamFault::WriteFault(_)) => tell_unwritten(rt, &output),
-        Err(fault) => tell_redo(rt, fault),
-        Ok(()) => {}
-    }
-    status
-}
-
-/// The same, into a file.
-fn redo_into(rt: &HostRuntime, path: &str, force: bool) -> ExitCode {
-    let (input, notes) = (Notes::new(), Notes::new());
-    let limits = Limits {
-        inputs: Inputs::Standard,
-        force,
-    };
-    let Some(mut folder) = OutputFolder::of(rt, path, limits, &notes) else {
-        return ExitCode::from(FAULT_STATUS);
-    };
-    let mut volume = RedoneVolume {
-        log: noted(patient(rt, rt.stdin()), &input),
-    };
-    let name = folder.name();
-    match put_and_store(&mut folder, rt.alloc(), name, &mut volume) {
-        Ok(()) => ExitCode::SUCCESS,
-        Err(PutStoredFault::Unput(PutFault::Unwritten(fault))) => {
-            let status = status_of(rt, &Err(fault));
-            match &fault {
-                StreamFault::ReadFault => tell_unread(rt, &input),
-                StreamFault::WriteFault(_) => tell_output(rt, path, &notes),
-                fault => tell_redo(rt, fault),
-            }
-            status
-        }
-        Err(fault) => {
-            folder.tell_unput(&fault);
-            ExitCode::from(FAULT_STATUS)
-        }
-    }
-}
-
-/// No volume is written to a terminal that is not asked for.
-pub(crate) fn refused_terminal(rt: &impl Eprint) -> ExitCode
-    ensures { exit_status result ≡ 2 }
-{
-    let _ = eprintln!(rt; "{} 0", FaultName::WriteFault);
-    let _ = eprintln!(rt;
-        "imgcopy: standard output is a terminal: name a file by -o, redirect it, or add -o -"
-    );
-    ExitCode::from(FAULT_STATUS)
 }
 
 /// Plays the script on standard input, saves what it leaves, and does its last restore.
@@ -456,26 +374,6 @@ fn status_of_open(end: OpenEnd) -> ExitCode
     }
 }
 
-/// Tells that an answer could not be written to standard output.
-pub(crate) fn told_unprinted(rt: &impl Eprint, error: &io::Error) -> ExitCode
-    ensures { exit_status result ≡ 2 }
-{
-    let _ = eprintln!(rt; "{} 0", FaultName::WriteFault);
-    let _ = eprintln!(rt; "imgcopy: standard output: {error}");
-    ExitCode::from(FAULT_STATUS)
-}
-
-/// Tells an answer on standard output, and answers this status, or that of a fault where the answer
-/// cannot be written.
-pub(crate) fn answered(rt: &(impl Print + Eprint), answer: &impl Display, status: u8) -> ExitCode
-    ensures { (exit_status result ≡ status) ⊎ (exit_status result ≡ 2) }
-{
-    match rt.println(answer) {
-        Ok(()) => ExitCode::from(status),
-        Err(error) => told_unprinted(rt, &error),
-    }
-}
-
 /// Tells why a script's last restore came to no end, and answers the program's status.
 fn status_of_finish(rt: &impl Eprint, done: &Result<(), FinishFault>) -> u8
     ensures done { OnOk done.now (result ≡ 0) }
@@ -501,14 +399,6 @@ impl Display for Version {
     }
 }
 
-/// Tells a fault on standard error, and answers its status.
-fn told(rt: &impl Eprint, fault: &ProgramFault) -> ExitCode
-    ensures { exit_status result ≡ 2 }
-{
-    let _ = rt.eprintln(fault);
-    ExitCode::from(FAULT_STATUS)
-}
-
 /// Writes a text that ends with its own line break to standard error, and answers the status of a
 /// fault.
 pub(crate) fn told_whole(rt: &impl Eprint, text: &impl Display) -> ExitCode
@@ -517,15 +407,4 @@ pub(crate) fn told_whole(rt: &impl Eprint, text: &impl Display) -> ExitCode
     // Where even this cannot be written, the status still tells.
     let _ = rt.eprint(text);
     ExitCode::from(FAULT_STATUS)
-}
-
-/// Tells a fault on standard error, and answers the program's status.
-fn status_of(rt: &impl Eprint, done: &Result<(), StreamFault>) -> ExitCode
-    ensures done { OnOk done.now (exit_status result ≡ 0) }
-    ensures fault { IfErr done.now (λ _. exit_status result ≡ 2) }
-{
-    match done {
-        Ok(()) => ExitCode::SUCCESS,
-        Err(fault) => told(rt, &ProgramFault::from(*fault)),
-    }
 }

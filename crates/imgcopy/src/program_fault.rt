@@ -1,6 +1,5 @@
 //! Why the program does not do what its words say.
 
-use page_redo::StreamFault;
 use script_run::{FinishFault, ScriptRunFault};
 use thiserror::Error;
 
@@ -38,9 +37,6 @@ pub enum ProgramFault {
     /// A manifest is named, and none is to count.
     #[error("{text}", text = TWO_MANIFESTS)]
     TwoManifests,
-    /// The volume of a log is not written.
-    #[error(transparent)]
-    Redo(#[from] StreamFault),
     /// A script is not played.
     #[error(transparent)]
     Run(#[from] ScriptRunFault),

@@ -4,10 +4,10 @@ ghost use Rattle.std.specs.Prelude.{◌≡◌, IfErr, OnOk};
 ghost use Rattle.std.specs.Process.{exit_status};
 ghost use Rattle.media_restore.specs.FilesLog.{told_fault};
 ghost use Rattle.script_run.specs.Status.{status_of_restore};
-ghost use Rattle.imgcopy.specs.Ends.{status_of_end};
-ghost use Rattle.imgcopy.specs.declared.restores.Ended.TheVariants.{Well};
+ghost use Rattle.file_commands.specs.Statuses.{status_of_end};
+ghost use Rattle.file_commands.specs.declared.restore.Ended.TheVariants.{Well};
 
-use crate::refused_terminal;
+use crate::answers::refused_terminal;
 use crate::untils::restore_until;
 use checked_files::CheckedFiles;
 use file_inputs::{Checks, FIRST_ARCHIVE, InputNames, noted, patient, tell_unwritten};
@@ -64,7 +64,7 @@ impl Ended {
 
 /// Restores a volume from files, and its log if a file for that is named. The log counts up to the
 /// record at an LSN, if one is told. A file that a manifest names has to be that file.
-pub fn restore(
+pub fn restore_named(
     rt: &HostRuntime,
     threads: &(impl Threads + Sync),
     names: &InputNames<'_>,

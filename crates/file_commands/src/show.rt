@@ -11,7 +11,7 @@ use std::process::ExitCode;
 use system_files::Notes;
 
 /// Shows a file.
-pub fn show(rt: &HostRuntime, name: &str, wanted: &Wanted, form: Form) -> ExitCode {
+pub fn show_named(rt: &HostRuntime, name: &str, wanted: &Wanted, form: Form) -> ExitCode {
     let (input, output) = (Notes::new(), Notes::new());
     let done = shown(rt, name, wanted, form, &input, &output);
     let status = status_of_view(rt, &done);

@@ -1,6 +1,6 @@
 //! The command `restore` with a folder: which of the chains of copies there it takes.
 
-use crate::restores::{Ended, Outputs, restore};
+use crate::restore::{Ended, Outputs, restore_named};
 use checked_files::ManifestUse;
 use command_words::RESTORE_USAGE;
 use copy_vault::CopyId;
@@ -207,7 +207,7 @@ fn restore_chain(
         until: wanted.until,
         manifest: wanted.manifest,
     };
-    Ok(restore(rt, threads, &names, master.as_str(), outputs))
+    Ok(restore_named(rt, threads, &names, master.as_str(), outputs))
 }
 
 /// Tells that the copy that is wanted has no whole chain, or that none has, or that there is none.

@@ -6,8 +6,8 @@ ghost use Rattle.script_run.specs.Status.{status_of_audit};
 ghost use Rattle.checked_files.specs.Checked.{bytes_by};
 ghost use Rattle.file_inputs.specs.ReadFiles.{HasRightMaster, IsAudited};
 
+use crate::answers::{answered, told_unprinted};
 use crate::untils::audit_until;
-use crate::{answered, told_unprinted};
 use checked_files::CheckedFiles;
 use copy_audit::{Sound, Unsound};
 use copy_vault::CopyId;
@@ -22,7 +22,7 @@ use system_files::{Notes, SystemFiles};
 /// Audits a chain of copies against a log, and the master record first, if one is named. The log
 /// counts up to the record at an LSN, if one is told: then no master record is read. What reads the
 /// log twice reads it once where it is no regular file.
-pub fn audit(rt: &HostRuntime, names: &InputNames<'_>, all: bool) -> ExitCode {
+pub fn audit_named(rt: &HostRuntime, names: &InputNames<'_>, all: bool) -> ExitCode {
     let notes = Notes::new();
     let Some(checks) = Checks::of(rt, names) else {
         return ExitCode::from(FAULT_STATUS);

@@ -1,0 +1,17 @@
+//! The commands `redo`, `restore`, `audit` and `show`, over files that are named and standard streams.
+#![tactic(auto)]
+
+mod answers;
+mod audit;
+mod folder_restore;
+mod redo;
+mod restore;
+mod show;
+mod untils;
+
+pub use answers::{answered, told};
+pub use audit::audit_named;
+pub use folder_restore::{FolderRestore, restore_folder};
+pub use redo::redo_log;
+pub use restore::{Ended, Outputs, restore_named};
+pub use show::show_named;
