@@ -1,1 +1,3 @@
 mod CopyChains
+mod PathParts
+mod Placed

@@ -1,3 +1,8 @@
+pub mod Causes
 pub mod CopyChain
+pub mod Headers
 pub mod Manifests
+pub mod Paths
 pub mod ReadFiles
+pub mod ReadOnce
+pub mod Reasons

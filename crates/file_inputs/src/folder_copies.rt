@@ -1,5 +1,8 @@
 //! The copies that stand in a folder, by their names and headers.
 
+ghost use Rattle.std.specs.Prelude.{◌≡◌, IfOk, IfSome, IsSorted};
+ghost use Rattle.std.specs.Ordering.{nat_cmp};
+
 use crate::reasons::tell_view;
 use crate::standing::tell_irregular;
 use crate::streams::noted;
@@ -13,7 +16,9 @@ use system_files::{Escaped, Notes, copy_id};
 
 /// The ids of the copies of a folder, as their names say, in their order. Where the folder cannot
 /// be read, that is told.
-pub fn ids_in(rt: &HostRuntime, folder: &str) -> Result<Vec<u32>, ViewFault> {
+pub fn ids_in(rt: &HostRuntime, folder: &str) -> Result<Vec<u32>, ViewFault>
+    ensures { IfOk result (λ ids. IsSorted nat_cmp ids.items) }
+{
     let mut ids = Vec::new(rt.alloc());
     let entries = match fs::read_dir(rt, folder) {
         Ok(entries) => entries,
@@ -41,7 +46,9 @@ pub fn header_of(
     rt: &HostRuntime,
     folder: &str,
     id: u32,
-) -> Result<Option<(CopyHeader, u64)>, AllocError> {
+) -> Result<Option<(CopyHeader, u64)>, AllocError>
+    ensures { IfOk result (λ found. IfSome found (λ it. it.0.id ≡ id)) }
+{
     let name = format!(in rt.alloc(); "{folder}/copy-{id}")?;
     let notes = Notes::new();
     let Some(bytes) = length_of(rt, name.as_str(), &notes) else {

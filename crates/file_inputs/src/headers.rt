@@ -1,5 +1,8 @@
 //! What a file that is refused begins like, for a person.
 
+ghost use Rattle.std.specs.Prelude.{◌≡◌};
+ghost use Rattle.file_inputs.specs.Headers.{last_kind};
+
 use log_records::HEADER_BYTES;
 use page_core::Format;
 
@@ -23,7 +26,9 @@ pub fn kind_of(header: &[u8; HEADER_BYTES]) -> Option<FileKind> {
 }
 
 /// The greatest number of a kind of record in a log of this format.
-pub fn last_kind(format: Format) -> u8 {
+pub fn last_kind(format: Format) -> u8
+    ensures { result ≡ last_kind format }
+{
     match format {
         Format::First => 10,
         Format::Second => 11,

@@ -1,7 +1,7 @@
 //! The files that a command reads, by their places.
 
-ghost use Rattle.std.specs.Prelude.{◌≡◌, ◌+◌, length, option_map};
-ghost use Rattle.file_inputs.specs.ReadFiles.{name_at};
+ghost use Rattle.std.specs.Prelude.{◌≡◌, ◌+◌, ◌-◌, ◌^◌, IfSome, Some, length, min, option_map};
+ghost use Rattle.file_inputs.specs.ReadFiles.{name_at, role_of};
 
 use crate::standing::{end_of, is_regular};
 use checked_files::ManifestUse;
@@ -45,7 +45,9 @@ impl<'a> InputNames<'a> {
     }
 
     /// Where the log ends, as far as it counts. Of a pipe this is not known.
-    pub(crate) fn log_end(&self, rt: &HostRuntime) -> Option<u64> {
+    pub(crate) fn log_end(&self, rt: &HostRuntime) -> Option<u64>
+        ensures { IfSome self.now.until (λ until. result ≡ Some (min (until + 64) (2 ^ 64 - 1))) }
+    {
         match self.until {
             Some(until) => Some(end_behind(until).0),
             None if is_regular(rt, self.log) => end_of(rt, self.log),
@@ -55,7 +57,9 @@ impl<'a> InputNames<'a> {
 }
 
 /// As what the file at this place is read.
-pub fn what_stands(place: usize) -> &'static str {
+pub fn what_stands(place: usize) -> &'static str
+    ensures { result.now ≡ role_of place }
+{
     match place {
         0 => "log",
         1 => "master record",
@@ -64,6 +68,8 @@ pub fn what_stands(place: usize) -> &'static str {
 }
 
 /// Where a log ends whose last record is this one.
-pub(crate) fn end_behind(last: Lsn) -> Lsn {
+pub(crate) fn end_behind(last: Lsn) -> Lsn
+    ensures { result ≡ min (last + 64) (2 ^ 64 - 1) }
+{
     Lsn(last.0.saturating_add(RECORD_BYTES as u64))
 }

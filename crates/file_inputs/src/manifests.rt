@@ -1,8 +1,9 @@
 //! What manifests say of the files that a command reads. One stands beside them, as `manifest`, or
 //! is told.
 
-ghost use Rattle.std.specs.Prelude.{◌<◌, ◌↔◌, IsSome, IsTrue, OnOk};
-ghost use Rattle.file_inputs.specs.Manifests.{TakesUp};
+ghost use Rattle.std.specs.Prelude.{◌≡◌, ◌<◌, ◌↔◌, IfSome, IsSome, IsTrue, OnOk};
+ghost use Rattle.checked_files.specs.declared.known.ManifestUse.TheVariants.{Aside};
+ghost use Rattle.file_inputs.specs.Manifests.{ArePlaced, ComparesNone, TakesUp, named_in};
 
 use crate::beside::{is_found, manifest_among, read_beside, read_manifest};
 use crate::fault_lines::{tell_audited, tell_input};
@@ -13,6 +14,7 @@ use crate::standing::length_at;
 use checked_files::{CheckNotes, Expected, Known, ManifestUse, ReadFile, known_file};
 use copy_audit::Unsound;
 use file_view::ViewFault;
+use manifest::Manifest;
 use media_restore::RestoreFault;
 use std::alloc::AllocError;
 use system_files::{Escaped, Notes};
@@ -32,7 +34,10 @@ pub struct Checks<'a> {
 
 impl<'a> Checks<'a> {
     /// What manifests say of these files. None where a manifest is refused, which is told.
-    pub fn of(rt: &HostRuntime, names: &InputNames<'a>) -> Option<Checks<'a>> {
+    pub fn of(rt: &HostRuntime, names: &InputNames<'a>) -> Option<Checks<'a>>
+        ensures aside { names.now.manifest ≡ Aside → IfSome result ComparesNone }
+        ensures placed { IfSome result (ArePlaced names.now) }
+    {
         let mut checks = Checks {
             expected: Vec::new(rt.alloc()),
             notes: CheckNotes::new(),
@@ -68,7 +73,7 @@ impl<'a> Checks<'a> {
         }
     }
 
-    /// The same of an audit.
+    /// Names the file in which an audit met its fault, and says what is wrong with it.
     pub fn tell_audited(
         &self,
         rt: &HostRuntime,
@@ -110,7 +115,9 @@ impl<'a> Checks<'a> {
     }
 
     /// How many bytes are named of the file of this name.
-    fn named(&self, name: &str) -> Option<u64> {
+    fn named(&self, name: &str) -> Option<u64>
+        ensures { result ≡ named_in self.now.expected.items name.now }
+    {
         for it in self.expected.as_slice() {
             if it.name == name {
                 return Some(it.file.bytes);
@@ -120,17 +127,12 @@ impl<'a> Checks<'a> {
     }
 
     /// Takes up what the manifests say that stand beside the files. Whether none is refused.
-    fn look_beside(
-        &mut self,
-        rt: &HostRuntime,
-        names: &InputNames<'a>,
-    ) -> Result<bool, AllocError> {
+    fn look_beside(&mut self, rt: &HostRuntime, names: &InputNames<'a>) -> Result<bool, AllocError>
+        ensures { OnOk result (ArePlaced names.now self.old → ArePlaced names.now self.new) }
+    {
         let mut found = Vec::new(rt.alloc());
         for place in 0..names.count() {
-            let Some(name) = names.at(place) else {
-                continue;
-            };
-            let Some((folder, base)) = parts_of(name) else {
+            let Some(folder) = folder_at(names, place) else {
                 continue;
             };
             if !is_found(&found, folder) {
@@ -139,13 +141,14 @@ impl<'a> Checks<'a> {
                 };
                 found.push(beside)?;
             }
-            let file = ReadFile {
-                name: base,
-                in_part: is_in_part(names, place),
-                log: log_beside(rt, folder)?,
-            };
-            let known = known_file(ManifestUse::Beside, manifest_among(&found, folder), &file);
-            self.take(name, &known)?;
+            let log = log_beside(rt, folder)?;
+            self.compare(
+                names,
+                place,
+                ManifestUse::Beside,
+                manifest_among(&found, folder),
+                log,
+            )?;
         }
         Ok(true)
     }
@@ -156,27 +159,44 @@ impl<'a> Checks<'a> {
         rt: &HostRuntime,
         names: &InputNames<'a>,
         told: &str,
-    ) -> Result<bool, AllocError> {
+    ) -> Result<bool, AllocError>
+        ensures { OnOk result (ArePlaced names.now self.old → ArePlaced names.now self.new) }
+    {
         let Some(manifest) = read_manifest(rt, told) else {
             return Ok(false);
         };
         let log = length_at(rt, names.log);
         for place in 0..names.count() {
-            let Some(name) = names.at(place) else {
-                continue;
-            };
-            let Some((_, base)) = parts_of(name) else {
-                continue;
-            };
-            let file = ReadFile {
-                name: base,
-                in_part: is_in_part(names, place),
-                log,
-            };
-            let known = known_file(ManifestUse::Told(told), Some(&manifest), &file);
-            self.take(name, &known)?;
+            self.compare(names, place, ManifestUse::Told(told), Some(&manifest), log)?;
         }
         Ok(true)
+    }
+
+    /// Takes up what this manifest says of the file at a place, if there is one, of whose log so many
+    /// bytes stand there.
+    fn compare(
+        &mut self,
+        names: &InputNames<'a>,
+        place: usize,
+        choice: ManifestUse<'_>,
+        stands: Option<&Manifest>,
+        log: Option<u64>,
+    ) -> Result<(), AllocError>
+        ensures { OnOk result (ArePlaced names.now self.old → ArePlaced names.now self.new) }
+    {
+        let Some(name) = names.at(place) else {
+            return Ok(());
+        };
+        let Some((_, base)) = parts_of(name) else {
+            return Ok(());
+        };
+        let file = ReadFile {
+            name: base,
+            in_part: is_in_part(names, place),
+            log,
+        };
+        let known = known_file(choice, stands, &file);
+        self.take(name, &known)
     }
 
     /// Takes up what is known of a file.
@@ -189,6 +209,12 @@ impl<'a> Checks<'a> {
             Known::Named(file) => Ok(self.expected.push(Expected { name, file: *file })?),
         }
     }
+}
+
+/// The folder of the file at a place, if there is one.
+fn folder_at<'a>(names: &InputNames<'a>, place: usize) -> Option<&'a str> {
+    let (folder, _) = parts_of(names.at(place)?)?;
+    Some(folder)
 }
 
 /// Of a log that counts up to a record not all is read, and no master record.

@@ -1,27 +1,26 @@
 //! The folder and the name that a path has.
 
-/// The folder and the name that a path has.
-pub fn parts_of(path: &str) -> Option<(&str, &str)> {
-    match path.rsplit_once('/') {
-        None => named(".", path),
-        Some(("", name)) => named("/", name),
-        Some((folder, name)) => named(folder, name),
+ghost use Rattle.std.specs.Prelude.{◌≡◌, option_map};
+ghost use Rattle.file_inputs.specs.Paths.{leads_to_folder, parts_in};
+
+/// The folder and the name that a path has, parted by its last slash. A name alone is one of the
+/// folder `.`. None where the path can only be a folder's: it ends with a slash, or in `.` or `..`.
+pub fn parts_of(path: &str) -> Option<(&str, &str)>
+    ensures { option_map (λ it. (it.0.now, it.1.now)) result ≡ parts_in path.now }
+{
+    let (folder, name) = match path.rsplit_once('/') {
+        None => (".", path),
+        Some((folder, name)) => (if folder.is_empty() { "/" } else { folder }, name),
+    };
+    if leads_to_folder(name) {
+        None
+    } else {
+        Some((folder, name))
     }
 }
 
-fn named<'a>(folder: &'a str, name: &'a str) -> Option<(&'a str, &'a str)> {
-    if name.is_empty() || name == "." || name == ".." {
-        return None;
-    }
-    Some((folder, name))
-}
-
-#[cfg(test)]
-mod tests {
-    use crate::paths::parts_of;
-
-    #[test]
-    fn a_path_has_a_folder_and_a_name() {
-        prove_eq!(parts_of("a/b"), Some(("a", "b")));
-    }
+fn leads_to_folder(name: &str) -> bool
+    ensures { result ≡ leads_to_folder name.now }
+{
+    name.is_empty() || name == "." || name == ".."
 }

@@ -1,6 +1,7 @@
 //! Inputs that can be read but once, as pipes: their bytes are kept, for each later reading.
 
-ghost use Rattle.std.specs.Prelude.{None};
+ghost use Rattle.std.specs.Prelude.{◌≡◌, OnOk, option_map};
+ghost use Rattle.file_inputs.specs.ReadOnce.{KeepsOrAdds, bytes_in};
 
 use crate::input_names::InputNames;
 use file_view::{ViewFault, read_file};
@@ -17,7 +18,8 @@ struct KeptInput {
     bytes: Vec<u8>,
 }
 
-/// The files of the system, of which those that are no regular files were read whole.
+/// The files of the system, of which those that are no regular files were read whole: each later
+/// reading gives the same bytes. Those of a regular file are read anew each time.
 #[derive(Drop)]
 pub struct ReadOnce<'a> {
     files: &'a HostRuntime,
@@ -48,7 +50,9 @@ impl<'a> ReadOnce<'a> {
     }
 
     /// Reads a file whole, if it is there and no regular one. A missing one is told of later.
-    fn keep(&mut self, name: &str) -> Result<(), ViewFault> {
+    fn keep(&mut self, name: &str) -> Result<(), ViewFault>
+        ensures { OnOk result (KeepsOrAdds name.now self.old.kept.items self.new.kept.items) }
+    {
         match fs::metadata(self.files, name) {
             Ok(there) if !there.is_file() && !there.is_dir() => {}
             _ => return Ok(()),
@@ -71,7 +75,9 @@ impl<'a> ReadOnce<'a> {
         Ok(())
     }
 
-    fn bytes_of(&self, name: &str) -> Option<&[u8]> {
+    fn bytes_of(&self, name: &str) -> Option<&[u8]>
+        ensures { option_map (λ bytes. bytes.now) result ≡ bytes_in self.now.kept.items name.now }
+    {
         for input in self.kept.as_slice() {
             if input.name.as_str() == name {
                 return Some(input.bytes.as_slice());
@@ -89,6 +95,10 @@ pub enum OnceFile<'a> {
 }
 
 impl Read for OnceFile<'_> {
+    ghost use Rattle.file_inputs.specs.ReadOnce.{left_of};
+
+    ghost remaining = { left_of };
+
     fn read(&mut self, buf: &mut [u8]) -> io::Result<usize> {
         match self {
             OnceFile::Opened(file) => file.read(buf),
@@ -100,7 +110,7 @@ impl Read for OnceFile<'_> {
 impl<'a> NamedFiles for &'a ReadOnce<'_> {
     type File = OnceFile<'a>;
 
-    ghost bytes = { λ _ _. None };
+    ghost bytes = { λ it. bytes_in it.now.kept.items };
 
     fn open(&self, name: &str) -> io::Result<OnceFile<'a>> {
         if let Some(bytes) = self.bytes_of(name) {

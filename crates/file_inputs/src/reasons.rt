@@ -1,5 +1,10 @@
 //! What is wrong with a file that was refused, for a person: the file is read once more.
 
+ghost use Rattle.std.specs.Prelude.{◌≡◌, ◌↔◌, IsTrue};
+ghost use Rattle.file_inputs.specs.Reasons.{IsNoKind, IsReasonOfRecord, broken_reason};
+ghost use Rattle.file_inputs.specs.Reasons.{count_reason};
+ghost use Rattle.file_inputs.specs.Reasons.{header_reason};
+
 use crate::chain_reason::ChainReason;
 use crate::headers::{FileKind, kind_of, last_kind};
 use crate::input_names::{FIRST_ARCHIVE, InputNames, STANDARD_INPUT, end_behind};
@@ -8,11 +13,13 @@ use crate::standing::{end_of, is_regular};
 use copy_audit::Unsound;
 use copy_vault::{ArchiveFault, CopyId};
 use file_view::{CopyHeader, ViewFault, read_copy_header};
-use log_records::{RECORD_BYTES, log_header};
-use log_store::{LogReadFault, MASTER_BYTES, Reached, broken_rule_at, scan_to_fault};
+use log_records::{HEADER_BYTES, RECORD_BYTES, log_header};
+use log_store::{
+    LogReadFault, MASTER_BYTES, Reached, broken_rule_at, decode_master, scan_to_fault,
+};
 use media_restore::{RestoreFault, UntilFault};
 use page_core::field::u64_at;
-use page_core::{Lsn, PAGE_BYTES, PageNo};
+use page_core::{Format, Lsn, PAGE_BYTES, PageNo};
 use page_redo::StreamFault;
 use std::fs;
 use std::io::{Read, Seek, SeekFrom};
@@ -60,7 +67,7 @@ pub fn reason_of_restore(
     }
 }
 
-/// The same of an audit.
+/// What is wrong with the file at this place, where an audit met this fault.
 pub fn reason_of_audit(
     rt: &HostRuntime,
     names: &InputNames<'_>,
@@ -201,33 +208,51 @@ fn reason_of_header(rt: &HostRuntime, name: &str, place: usize) -> Option<Reason
     let Some(bytes) = bytes_at(rt, name, 0) else {
         return Some(Reason::IsShort(end_of(rt, name)?));
     };
-    let (found, wanted) = match kind_of(&bytes) {
-        Some(FileKind::Log) => (Reason::IsLog, 0),
-        Some(FileKind::Master) => (Reason::IsMaster, 1),
-        Some(FileKind::Archive) => (Reason::IsArchive, FIRST_ARCHIVE),
-        None => return Some(Reason::IsOther),
+    let Some(kind) = kind_of(&bytes) else {
+        return Some(Reason::IsOther);
     };
-    if place.min(FIRST_ARCHIVE) != wanted {
-        return Some(found);
-    }
-    match (found, end_of(rt, name)?) {
-        (Reason::IsMaster, count) if count > MASTER_BYTES as u64 => Some(Reason::IsLong(count)),
-        _ => Some(Reason::BadHeader),
+    Some(header_reason(kind, place, end_of(rt, name)?))
+}
+
+/// What is wrong with the header of a file of this kind and length, where a file of the place was to
+/// be read.
+fn header_reason(kind: FileKind, place: usize, length: u64) -> Reason
+    ensures { result ≡ header_reason kind place length }
+{
+    match kind {
+        FileKind::Log if place != 0 => Reason::IsLog,
+        FileKind::Master if place != 1 => Reason::IsMaster,
+        FileKind::Archive if place < FIRST_ARCHIVE => Reason::IsArchive,
+        FileKind::Master if length > MASTER_BYTES as u64 => Reason::IsLong(length),
+        FileKind::Log | FileKind::Master | FileKind::Archive => Reason::BadHeader,
     }
 }
 
 fn reason_of_record(rt: &HostRuntime, name: &str, at: Lsn) -> Option<Reason> {
     let header = log_header(&bytes_at(rt, name, 0)?)?;
-    let bytes = bytes_at(rt, name, at.0)?;
-    if bytes[0] == 0 || bytes[0] > last_kind(header.format) {
-        return Some(Reason::Kind(bytes[0]));
-    }
-    let own = u64_at(&bytes, 56);
-    if own == at.0 {
-        Some(Reason::Misspelt)
+    Some(record_reason(&bytes_at(rt, name, at.0)?, header.format, at))
+}
+
+/// Why these bytes are no record of such a log at this LSN. The kind is the first byte of a record,
+/// and its own LSN stands in the last eight.
+fn record_reason(bytes: &[u8; RECORD_BYTES], format: Format, at: Lsn) -> Reason
+    ensures { IsReasonOfRecord bytes.now format at result }
+{
+    let (kind, own) = (bytes[0], u64_at(bytes, RECORD_BYTES - 8));
+    if is_no_kind(format, kind) {
+        Reason::Kind(kind)
+    } else if own == at.0 {
+        Reason::Misspelt
     } else {
-        Some(Reason::OwnLsn(own))
+        Reason::OwnLsn(own)
     }
+}
+
+/// Whether no record of such a log has this kind.
+fn is_no_kind(format: Format, kind: u8) -> bool
+    ensures { IsTrue result ↔ IsNoKind format kind }
+{
+    kind == 0 || kind > last_kind(format)
 }
 
 fn reason_of_torn(rt: &HostRuntime, name: &str, at: Lsn) -> Option<Reason> {
@@ -242,8 +267,8 @@ fn reason_of_chain(rt: &HostRuntime, name: &str, at: Lsn) -> Option<Reason> {
 }
 
 fn reason_of_master(rt: &HostRuntime, name: &str) -> Option<Reason> {
-    let bytes = bytes_at(rt, name, 0)?;
-    Some(Reason::NoCheckpoint(u64_at(&bytes, 8), u64_at(&bytes, 16)))
+    let master = decode_master(&bytes_at(rt, name, 0)?)?;
+    Some(Reason::NoCheckpoint(master.begin.0, master.end.0))
 }
 
 /// Why an archive does not follow the one before it, or is none of this log.
@@ -254,11 +279,21 @@ fn reason_of_broken(rt: &HostRuntime, names: &InputNames<'_>, place: usize) -> O
         Some(index) => Some(archive_at(rt, names.archives.get(index)?)?.id),
         None => None,
     };
+    match broken_reason(header.parent, before) {
+        Some(reason) => Some(reason),
+        None => Some(Reason::Pages(header.pages, pages_before(rt, names, header.begin)?)),
+    }
+}
+
+/// Why a copy of this parent, which is 0 for a full one, may not follow the copy before it.
+fn broken_reason(parent: u32, before: Option<u32>) -> Option<Reason>
+    ensures { result ≡ broken_reason parent before }
+{
     match before {
-        None if header.parent != 0 => Some(Reason::IncFirst(header.parent)),
-        Some(_) if header.parent == 0 => Some(Reason::FullBehind),
-        Some(id) if header.parent != id => Some(Reason::Parent(header.parent, id)),
-        _ => Some(Reason::Pages(header.pages, pages_before(rt, names, header.begin)?)),
+        None if parent != 0 => Some(Reason::IncFirst(parent)),
+        Some(_) if parent == 0 => Some(Reason::FullBehind),
+        Some(id) if parent != id => Some(Reason::Parent(parent, id)),
+        _ => None,
     }
 }
 
@@ -276,12 +311,20 @@ fn pages_before(rt: &HostRuntime, names: &InputNames<'_>, lsn: Lsn) -> Option<u3
 
 fn reason_of_count(rt: &HostRuntime, name: &str) -> Option<Reason> {
     let header = archive_at(rt, name)?;
-    let bytes = end_of(rt, name)?.saturating_sub(RECORD_BYTES as u64);
+    Some(count_reason(end_of(rt, name)?, header.taken))
+}
+
+/// What does not go together of an archive's length and the pages that its header says.
+fn count_reason(length: u64, said: u32) -> Reason
+    ensures { result ≡ count_reason length said }
+{
+    let bytes = length.saturating_sub(HEADER_BYTES as u64);
     let there = bytes / PAGE_BYTES as u64;
-    if there == header.taken as u64 {
-        return Some(Reason::Behind(bytes % PAGE_BYTES as u64, header.taken));
+    if there == said as u64 {
+        Reason::Behind(bytes % PAGE_BYTES as u64, said)
+    } else {
+        Reason::Count(there, said)
     }
-    Some(Reason::Count(there, header.taken))
 }
 
 /// The header of an archive, which is refused for something else.

@@ -1,9 +1,13 @@
 //! Standard streams: which calls are waited for, and why one failed.
 
+ghost use Rattle.std.specs.Prelude.{◌≡◌};
+
 use system_files::{Noted, Notes, RetryWouldBlock};
 
 /// A standard stream of which it is noted why a call failed.
-pub fn noted<'a, F>(stream: F, notes: &'a Notes) -> Noted<'a, F> {
+pub fn noted<'a, F>(stream: F, notes: &'a Notes) -> Noted<'a, F>
+    ensures { result.file ≡ stream }
+{
     Noted {
         file: stream,
         notes,
@@ -11,7 +15,9 @@ pub fn noted<'a, F>(stream: F, notes: &'a Notes) -> Noted<'a, F> {
 }
 
 /// A standard stream that is waited for where another one made its calls such that they do not.
-pub fn patient<'a, F>(rt: &'a HostRuntime, stream: F) -> RetryWouldBlock<'a, F> {
+pub fn patient<'a, F>(rt: &'a HostRuntime, stream: F) -> RetryWouldBlock<'a, F>
+    ensures { result.stream ≡ stream }
+{
     RetryWouldBlock { stream, rt }
 }
 
