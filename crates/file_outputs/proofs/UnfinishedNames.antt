@@ -1,5 +1,5 @@
 -- Names of files that are not whole.
-use Rattle.std.proofs.Common.{◌≡◌, ◌<◌, ◌≤◌, ◌+◌, ◌-◌, ◌++◌, ℕ, List, ap, arith, drop, get_or, inl, inr, length, length-append, subst, sym, take, ◌∙◌, Bool}
+use Rattle.std.proofs.Common.{◌≡◌, ◌≢◌, ◌↔◌, ◌<◌, ◌≤◌, ◌+◌, ◌-◌, ◌++◌, ℕ, List, ap, arith, drop, get_or, inl, inr, length, length-append, subst, sym, take, ◌∙◌, Bool}
 use Rattle.std.specs.Prelude.{codes}
 use Rattle.std.specs.Char.{IsAsciiDigit, IsNotAsciiDigit}
 use Rattle.std.specs.Bool.{IsTrue}
@@ -8,10 +8,10 @@ use Rattle.std.proofs.Math.Dec.{eqb}
 use Rattle.std.proofs.lemmas.Bool.Decides.{Decides-eqb}
 use Rattle.std.proofs.lemmas.Slice.Eq.{ends_is}
 use Rattle.std.proofs.lemmas.Bool.{cases_lt}
-use Rattle.std.proofs.lemmas.List.{append_assoc, get_or-append-add, get_or-drop, length-drop, nil_from_length, take-append-drop}
+use Rattle.std.proofs.lemmas.List.{append_assoc, append_cancel_left, get_or-append-add, get_or-drop, length-drop, nil_from_length, take-append-drop}
 use Rattle.std.proofs.lemmas.List.Elements.{All-get_or, All-from_get_or}
 use Rattle.std.proofs.Math.Seq.{take-append_seam}
-use Rattle.file_outputs.specs.Unfinished.{NamesUnfinished}
+use Rattle.file_outputs.specs.Unfinished.{AreDigits, IsUnfinishedOf, NamesUnfinished}
 
 not_both : (c : ℕ) → IsAsciiDigit c → IsNotAsciiDigit c → ⊥
 not_both c digit none = elim none [
@@ -107,3 +107,27 @@ none_told n bytes end same all bound most named =
     let is = same ∙ named.spelled in
     let there = begin_there bytes named.whole named.digits end is named.all bound (λ at above within. absurd (omega (arith, above, within, all))) most in
     named.some (nil_from_length named.digits (omega (arith, there, count_of bytes named.whole named.digits is, all, bound)))
+
+-- what stands behind a name and the mark is the rest of the name
+pub beside_is : (name n rest digits : List ℕ) (r : Bool) → n ≡ name ++ rest
+    → rest ≡ codes ".unfinished-" ++ digits → IsTrue r ↔ AreDigits digits → IsTrue r ↔ IsUnfinishedOf name n
+beside_is name n rest digits r cut mark decided = (
+  (λ yes. record {
+    digits = digits;
+    spelled = cut ∙ ap (λ (it : List ℕ). name ++ it) mark;
+    are = decided.0 yes;
+  }),
+  λ of.
+      let same = append_cancel_left name rest (codes ".unfinished-" ++ of.digits) (sym cut ∙ of.spelled) in
+      let digits_are = append_cancel_left (codes ".unfinished-") digits of.digits (sym mark ∙ same) in
+      decided.1 (subst AreDigits (sym digits_are) of.are),
+)
+
+-- without the name in front it is none of it, and without the mark behind that neither
+pub beside_none : (name n : List ℕ) → ((rest : List ℕ) → n ≢ name ++ rest) → IsUnfinishedOf name n → ⊥
+beside_none name n none of = none (codes ".unfinished-" ++ of.digits) of.spelled
+
+pub mark_none : (name n rest : List ℕ) → n ≡ name ++ rest
+    → ((digits : List ℕ) → rest ≢ codes ".unfinished-" ++ digits) → IsUnfinishedOf name n → ⊥
+mark_none name n rest cut none of =
+    none of.digits (append_cancel_left name rest (codes ".unfinished-" ++ of.digits) (sym cut ∙ of.spelled))

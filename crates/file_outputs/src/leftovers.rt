@@ -3,7 +3,7 @@
 
 ghost use Rattle.std.specs.Prelude.{ℕ, ◌-◌, ◌<◌, ◌≤◌, ◌↔◌, IsTrue, get_or, length};
 ghost use Rattle.std.specs.Char.{IsAsciiDigit, IsNotAsciiDigit};
-ghost use Rattle.file_outputs.specs.Unfinished.{NamesUnfinished};
+ghost use Rattle.file_outputs.specs.Unfinished.{AreDigits, IsUnfinishedOf, NamesUnfinished};
 
 use crate::limits::{Inputs, is_input};
 use std::fs;
@@ -54,7 +54,10 @@ pub fn tell_left_beside(rt: &HostRuntime, folder: &str, name: &str, inputs: &Inp
             continue;
         };
         let left = entry.file_name();
-        if told < MOST_TOLD && is_beside(left, name) && is_left(rt, &entry.path(), inputs) {
+        if told < MOST_TOLD
+            && is_beside(left.as_bytes(), name.as_bytes())
+            && is_left(rt, &entry.path(), inputs)
+        {
             tell(rt, folder, left);
             told += 1;
         }
@@ -62,18 +65,22 @@ pub fn tell_left_beside(rt: &HostRuntime, folder: &str, name: &str, inputs: &Inp
 }
 
 /// Whether a file of this name is written beside that name.
-fn is_beside(left: &str, name: &str) -> bool {
+fn is_beside(left: &[u8], name: &[u8]) -> bool
+    ensures { IsTrue result ↔ IsUnfinishedOf name.now left.now }
+{
     let Some(rest) = left.strip_prefix(name) else {
         return false;
     };
-    match rest.strip_prefix(UNFINISHED) {
-        Some(number) => is_number(number),
+    match rest.strip_prefix(UNFINISHED.as_bytes()) {
+        Some(digits) => are_digits(digits),
         None => false,
     }
 }
 
-fn is_number(text: &str) -> bool {
-    !text.is_empty() && text.bytes().all(|byte| byte.is_ascii_digit())
+fn are_digits(bytes: &[u8]) -> bool
+    ensures { IsTrue result ↔ AreDigits bytes.now }
+{
+    !bytes.is_empty() && before_digits(bytes) == 0
 }
 
 /// Whether it is a regular file that no writer has, and no input of the command.

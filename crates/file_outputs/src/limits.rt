@@ -1,5 +1,9 @@
 //! What an output may not replace.
 
+ghost use Rattle.std.specs.Prelude.{◌≡◌, IfErr, IsTrue};
+ghost use Rattle.file_outputs.specs.Outputs.{IsOfName};
+ghost use Rattle.file_outputs.specs.declared.limits.OutputFault.TheVariants.{Irregular};
+
 use checked_files::ManifestUse;
 use file_inputs::{InputNames, STANDARD_INPUT};
 use std::fs;
@@ -49,7 +53,10 @@ pub fn look(
     path: &str,
     name: &str,
     limits: &Limits<'_>,
-) -> Result<(), OutputFault> {
+) -> Result<(), OutputFault>
+    ensures forced { IsTrue limits.now.force → IfErr result (λ fault. fault ≡ Irregular) }
+    ensures of_name { IfErr result IsOfName }
+{
     if !is_replaceable(rt, path) {
         return Err(OutputFault::Irregular);
     }

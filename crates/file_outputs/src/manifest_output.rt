@@ -1,5 +1,10 @@
 //! The manifest that a save puts beside its files.
 
+ghost use Rattle.std.specs.Prelude.{◌≡◌, IfSome};
+ghost use Rattle.saved_files.specs.Saved.{parts_of};
+ghost use Rattle.checked_files.specs.Left.{AreNoted, NotesNoOther};
+ghost use Rattle.file_outputs.specs.ManifestFaults.{line_of};
+
 use crate::output_lines::tell;
 use crate::save_lines::new_names;
 use checked_files::{ManifestText, manifest_of};
@@ -17,7 +22,10 @@ const RANDOM: &str = "/dev/urandom";
 
 /// The manifest of what a script left. Each run is a database of its own, whose name is drawn. None
 /// where there is none, which is told.
-pub fn drawn_manifest(rt: &HostRuntime, retired: &Retired) -> Option<Manifest> {
+pub fn drawn_manifest(rt: &HostRuntime, retired: &Retired) -> Option<Manifest>
+    ensures noted { IfSome result (λ it. AreNoted (parts_of retired.now) it.entries) }
+    ensures only { IfSome result (λ it. NotesNoOther (parts_of retired.now) it.entries) }
+{
     let database = match drawn_name(rt) {
         Ok(database) => database,
         Err(error) => {
@@ -62,7 +70,9 @@ pub fn put_manifest(
 }
 
 /// The fault that is told of a manifest that is not in its place, or may not stay there.
-fn line_of(fault: &PutStoredFault<FileFault>) -> FileFault {
+fn line_of(fault: &PutStoredFault<FileFault>) -> FileFault
+    ensures { result ≡ line_of fault.now }
+{
     match fault {
         PutStoredFault::Unput(PutFault::Unmade(fault))
         | PutStoredFault::Unput(PutFault::Unwritten(fault))

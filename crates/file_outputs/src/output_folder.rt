@@ -1,6 +1,8 @@
 //! The folder of a file that `-o` or `--log-out` names.
 
-ghost use Rattle.std.specs.Prelude.{◌≡◌, IfSome, None};
+ghost use Rattle.std.specs.Prelude.{◌≡◌, IfNone, IfSome, IsErr, None, Some, true};
+ghost use Rattle.file_inputs.specs.Paths.{parts_in};
+ghost use Rattle.file_outputs.specs.Outputs.{IsOutputOf, IsRefused, IsSameOutput};
 ghost use Rattle.file_outputs.specs.Unfinished.{NamesUnfinished};
 
 use crate::leftovers::{UNFINISHED_NAME, is_unfinished, tell_left_beside};
@@ -39,8 +41,10 @@ impl<'a> OutputFolder<'a> {
         limits: Limits<'a>,
         notes: &'a Notes,
     ) -> Option<OutputFolder<'a>>
+        ensures made { IfSome result (IsOutputOf path.now limits.entry) }
         // It has no unfinished file's name: what is told to be left is no output.
-        ensures { IfSome result (λ it. ¬ NamesUnfinished it.name.now) }
+        ensures finished { IfSome result (λ it. ¬ NamesUnfinished it.name.now) }
+        ensures refused { IfNone result (IsRefused (parts_in path.now)) }
     {
         let Some((folder, name)) = parts_of(path) else {
             tell(rt, path, &"this names no file");
@@ -63,8 +67,10 @@ impl<'a> OutputFolder<'a> {
         })
     }
 
-    /// The same folder, where another output of the command has it once it is to be had again.
-    pub fn shared(self) -> OutputFolder<'a> {
+    /// This folder, where another output of the command has it once it is to be had again.
+    pub fn shared(self) -> OutputFolder<'a>
+        ensures { result ≡ record self.entry { is_shared = true } }
+    {
         OutputFolder {
             is_shared: true,
             ..self
@@ -100,14 +106,20 @@ impl<'a> OutputFolder<'a> {
     }
 
     /// Notes why a call failed.
-    fn fails<T>(&mut self, fault: OutputFault) -> io::Result<T> {
+    fn fails<T>(&mut self, fault: OutputFault) -> io::Result<T>
+        ensures failed { IsErr result }
+        ensures noted { self.new.fault ≡ Some fault }
+        ensures same { IsSameOutput self.old self.new }
+    {
         self.fault = Some(fault);
         Err(io::Error::from(ErrorKind::Other))
     }
 
     /// Has the folder while it looks at what stands there and makes a file of this name. What is left
     /// beside the output is told once that is made.
-    fn made(&mut self, beside: &str) -> io::Result<Noted<'a, File>> {
+    fn made(&mut self, beside: &str) -> io::Result<Noted<'a, File>>
+        ensures { IsSameOutput self.old self.new }
+    {
         if let Err(fault) = look(self.rt, self.path, self.name, &self.limits) {
             return self.fails(fault);
         }
@@ -124,7 +136,9 @@ impl<'a> OutputFolder<'a> {
     }
 
     /// Has the folder, and sees that the file may still take its name.
-    fn have(&mut self) -> io::Result<()> {
+    fn have(&mut self) -> io::Result<()>
+        ensures { IsSameOutput self.old self.new }
+    {
         if self.is_shared {
             self.there.open()?;
         } else if let Err(fault) = self.there.claim_soon() {

@@ -1,5 +1,8 @@
 //! The lines for a person behind a save: why it failed, and which files there are not its own.
 
+ghost use Rattle.std.specs.Prelude.{◌<◌, ◌↔◌, IfSome, IsNone, IsSome, IsTrue};
+ghost use Rattle.saved_files.specs.Saved.{parts_of, place_of};
+
 use copy_coverage::Retired;
 use copy_vault::{CopyId, MAX_COPIES};
 use saved_files::{SaveFault, SavedName};
@@ -54,34 +57,53 @@ fn tell_why_unsaved(rt: &impl Eprint, folder: &str, fault: &SaveFault, notes: &N
     };
 }
 
-/// The names of the files of a run before this one, or of all, each behind a space.
+/// The names of the files of a run that are in their places, each behind a space, where its save
+/// stopped at one of them, or at none.
 pub fn new_names(
     alloc: Global,
     stopped: Option<SavedName>,
     retired: &Retired,
 ) -> Result<String, AllocError> {
-    let mut names = String::new(alloc);
-    if stopped == Some(SavedName::Log) {
-        return Ok(names);
-    }
-    write!(names, " {}", SavedName::Log)?;
-    if stopped == Some(SavedName::Master) {
-        return Ok(names);
-    }
-    if retired.master().is_some() {
-        write!(names, " {}", SavedName::Master)?;
-    }
-    let vault = retired.vault();
-    for id in 1..=MAX_COPIES {
-        let file = SavedName::Copy(CopyId(id));
-        if stopped == Some(file) {
-            return Ok(names);
+    let (mut names, stopped) = (String::new(alloc), stopped.as_ref());
+    for file in &[SavedName::Log, SavedName::Master] {
+        if is_placed(file, stopped) && is_of_run(file, retired) {
+            write!(names, " {file}")?;
         }
-        if vault.complete(CopyId(id)).is_some() {
+    }
+    for id in 1..=MAX_COPIES {
+        let file = &SavedName::Copy(CopyId(id));
+        if is_placed(file, stopped) && is_of_run(file, retired) {
             write!(names, " {file}")?;
         }
     }
     Ok(names)
+}
+
+/// Whether a file comes before the one at which a save stopped, if it stopped at one.
+fn is_placed(file: &SavedName, stopped: Option<&SavedName>) -> bool
+    ensures all { IsNone stopped.entry → IsTrue result }
+    ensures before { IfSome stopped.entry (λ at. IsTrue result
+        ↔ (place_of file.now < place_of at.now)) }
+{
+    match (file, stopped) {
+        (_, None) => true,
+        (_, Some(SavedName::Log)) => false,
+        (SavedName::Log, Some(_)) => true,
+        (_, Some(SavedName::Master)) => false,
+        (SavedName::Master, Some(SavedName::Copy(_))) => true,
+        (SavedName::Copy(id), Some(SavedName::Copy(at))) => id.0 < at.0,
+    }
+}
+
+/// Whether a run has such a file.
+fn is_of_run(file: &SavedName, retired: &Retired) -> bool
+    ensures { IsTrue result ↔ IsSome (parts_of retired.now file.now) }
+{
+    match file {
+        SavedName::Log => true,
+        SavedName::Master => retired.master().is_some(),
+        SavedName::Copy(id) => retired.vault().complete(*id).is_some(),
+    }
 }
 
 /// Names the files of a folder that are of another run, by their names: nothing says that they fit
@@ -103,19 +125,13 @@ fn stale_names<R: Files>(
     retired: &Retired,
 ) -> Result<String, AllocError> {
     let mut names = String::new(alloc);
-    if retired.master().is_none() {
-        put_if_there(files, alloc, folder, SavedName::Master, &mut names)?;
+    if !is_of_run(&SavedName::Master, retired) {
+        put_if_there(files, alloc, folder, &SavedName::Master, &mut names)?;
     }
-    let vault = retired.vault();
     for id in 1..=MAX_COPIES {
-        if vault.complete(CopyId(id)).is_none() {
-            put_if_there(
-                files,
-                alloc,
-                folder,
-                SavedName::Copy(CopyId(id)),
-                &mut names,
-            )?;
+        let file = &SavedName::Copy(CopyId(id));
+        if !is_of_run(file, retired) {
+            put_if_there(files, alloc, folder, file, &mut names)?;
         }
     }
     Ok(names)
@@ -126,7 +142,7 @@ fn put_if_there<R: Files>(
     files: &R,
     alloc: Global,
     folder: &str,
-    file: SavedName,
+    file: &SavedName,
     names: &mut String,
 ) -> Result<(), AllocError> {
     let name = format!(in alloc; "{file}")?;

@@ -1,5 +1,8 @@
 //! The files that `run --save` leaves in a folder, and their manifest.
 
+ghost use Rattle.std.specs.Prelude.{◌≡◌, IfSome, IsSome, IsTrue};
+ghost use Rattle.file_outputs.specs.Saves.{IsManifestOf, found_in};
+
 use crate::leftovers::tell_left;
 use crate::manifest_output::{drawn_manifest, put_manifest};
 use crate::output_lines::tell;
@@ -90,7 +93,10 @@ impl Saving<'_> {
 
     /// The manifest that is to stand beside the files, if one is. It is made before a file is
     /// replaced. None where it cannot be made, which is told.
-    fn manifest_of(&self, rt: &HostRuntime, retired: &Retired) -> Option<Option<Manifest>> {
+    fn manifest_of(&self, rt: &HostRuntime, retired: &Retired) -> Option<Option<Manifest>>
+        ensures asked { IfSome result (λ made. IsTrue self.now.manifest → IsSome made) }
+        ensures right { IfSome result (λ made. IfSome made (IsManifestOf retired.now)) }
+    {
         if self.manifest || heard(rt, has_manifest(rt, self.folder))? {
             Some(Some(drawn_manifest(rt, retired)?))
         } else {
@@ -100,7 +106,9 @@ impl Saving<'_> {
 }
 
 /// What was found, or none for want of memory, which is told.
-fn heard(rt: &impl Eprint, found: Result<bool, AllocError>) -> Option<bool> {
+fn heard(rt: &impl Eprint, found: Result<bool, AllocError>) -> Option<bool>
+    ensures { result ≡ found_in found }
+{
     match found {
         Ok(found) => Some(found),
         Err(_) => {

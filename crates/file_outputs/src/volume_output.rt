@@ -1,7 +1,8 @@
 //! Where a volume goes.
 
-ghost use Rattle.std.specs.Prelude.{◌≡◌};
+ghost use Rattle.std.specs.Prelude.{◌≡◌, IsTrue};
 ghost use Rattle.file_outputs.specs.VolumeOutputs.{output_of};
+ghost use Rattle.file_outputs.specs.declared.volume_output.VolumeOutput.TheVariants.{Piped};
 
 use std::io::IsTerminal;
 
@@ -29,7 +30,9 @@ impl<'a> VolumeOutput<'a> {
     }
 
     /// Whether it would go to a terminal, which was not asked for.
-    pub fn is_barred(self, rt: &HostRuntime) -> bool {
+    pub fn is_barred(self, rt: &HostRuntime) -> bool
+        ensures { IsTrue result → self.entry ≡ Piped }
+    {
         matches!(self, VolumeOutput::Piped) && rt.stdout().is_terminal()
     }
 }
