@@ -1,1 +1,3 @@
+pub mod FolderChains
+pub mod Redone
 pub mod Statuses

@@ -1,6 +1,6 @@
 //! What a command answers on standard output and standard error, and its status.
 
-ghost use Rattle.std.specs.Prelude.{◌≡◌, ◌⊎◌};
+ghost use Rattle.std.specs.Prelude.{◌≡◌, ◌≤◌, ◌⊎◌};
 ghost use Rattle.std.specs.Process.{exit_status};
 
 use page_core::FaultName;
@@ -30,7 +30,8 @@ pub(crate) fn told_unprinted(rt: &impl Eprint, error: &io::Error) -> ExitCode
 /// Tells an answer on standard output, and answers this status, or that of a fault where the answer
 /// cannot be written.
 pub fn answered(rt: &(impl Print + Eprint), answer: &impl Display, status: u8) -> ExitCode
-    ensures { (exit_status result ≡ status) ⊎ (exit_status result ≡ 2) }
+    ensures status { (exit_status result ≡ status) ⊎ (exit_status result ≡ 2) }
+    ensures most { status ≤ 2 → exit_status result ≤ 2 }
 {
     match rt.println(answer) {
         Ok(()) => ExitCode::from(status),

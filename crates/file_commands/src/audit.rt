@@ -1,9 +1,10 @@
 //! The command `audit`.
 
-ghost use Rattle.std.specs.Prelude.{◌≡◌, ◌≢◌, ◌⊎◌, IfErr, IfNone, IfSome, OnOk};
+ghost use Rattle.std.specs.Prelude.{◌≤◌, ◌≡◌, ◌⊎◌, IfErr, IfNone, IfSome, OnOk};
 ghost use Rattle.std.specs.Process.{exit_status};
 ghost use Rattle.script_run.specs.Status.{status_of_audit};
 ghost use Rattle.checked_files.specs.Checked.{bytes_by};
+ghost use Rattle.file_commands.specs.Statuses.{IsOfFault};
 ghost use Rattle.file_inputs.specs.ReadFiles.{HasRightMaster, IsAudited};
 
 use crate::answers::{answered, told_unprinted};
@@ -22,7 +23,9 @@ use system_files::{Notes, SystemFiles};
 /// Audits a chain of copies against a log, and the master record first, if one is named. The log
 /// counts up to the record at an LSN, if one is told: then no master record is read. What reads the
 /// log twice reads it once where it is no regular file.
-pub fn audit_named(rt: &HostRuntime, names: &InputNames<'_>, all: bool) -> ExitCode {
+pub fn audit_named(rt: &HostRuntime, names: &InputNames<'_>, all: bool) -> ExitCode
+    ensures { exit_status result ≤ 2 }
+{
     let notes = Notes::new();
     let Some(checks) = Checks::of(rt, names) else {
         return ExitCode::from(FAULT_STATUS);
@@ -34,12 +37,14 @@ pub fn audit_named(rt: &HostRuntime, names: &InputNames<'_>, all: bool) -> ExitC
     status
 }
 
-/// The same, of files of which it is known what manifests say.
+/// Audits files of which it is known what manifests say.
 fn audit_known(
     rt: &HostRuntime,
     read: (&InputNames<'_>, &Notes, &Checks<'_>),
     all: bool,
-) -> ExitCode {
+) -> ExitCode
+    ensures { exit_status result ≤ 2 }
+{
     let (names, notes, _) = read;
     if let Some(until) = names.until {
         return audit_until(rt, read, all, until);
@@ -59,7 +64,9 @@ pub fn told_unkept(
     rt: &HostRuntime,
     read: (&InputNames<'_>, &Notes, &Checks<'_>),
     fault: &ViewFault,
-) -> ExitCode {
+) -> ExitCode
+    ensures { exit_status result ≡ 2 }
+{
     let (names, notes, checks) = read;
     let fault = match fault {
         ViewFault::OutOfMemory => Unsound::OutOfMemory,
@@ -77,9 +84,10 @@ pub fn audit_checked<N: NamedFiles>(
     read: (&InputNames<'_>, &Notes, &Checks<'_>),
     all: bool,
 ) -> ExitCode
-    ensures { exit_status result ≡ 0
+    ensures sound { exit_status result ≡ 0
         → IsAudited (bytes_by (N.bytes files.now) read.entry.2.now.expected.items)
         read.entry.0.now }
+    ensures status { exit_status result ≤ 2 }
 {
     let (names, notes, checks) = read;
     let files = CheckedFiles {
@@ -98,7 +106,8 @@ fn audit_in<N: NamedFiles>(
     all: bool,
     checks: &Checks<'_>,
 ) -> ExitCode
-    ensures { exit_status result ≡ 0 → IsAudited (N.bytes files.now) names.now }
+    ensures sound { exit_status result ≡ 0 → IsAudited (N.bytes files.now) names.now }
+    ensures status { exit_status result ≤ 2 }
 {
     if let Some(status) = refused_master(rt, files, names, notes, checks) {
         return status;
@@ -125,7 +134,7 @@ fn refused_master<N: NamedFiles>(
     checks: &Checks<'_>,
 ) -> Option<ExitCode>
     ensures right { IfNone result (HasRightMaster (N.bytes files.now) names.now) }
-    ensures refused { IfSome result (λ status. exit_status status ≢ 0) }
+    ensures refused { IfSome result (λ status. IsOfFault (exit_status status)) }
 {
     match check_master(files, rt.alloc(), names.log, names.master?) {
         Ok(()) => None,
@@ -173,6 +182,7 @@ fn status_of_audit(rt: &(impl Print + Eprint), done: &Result<Sound, Unsound>) ->
     ensures sound { OnOk done.now ((exit_status result ≡ 0) ⊎ (exit_status result ≡ 2)) }
     ensures fault { IfErr done.now (λ fault. (exit_status result ≡ status_of_audit fault)
         ⊎ (exit_status result ≡ 2)) }
+    ensures most { exit_status result ≤ 2 }
 {
     match done {
         Ok(Sound) => answered(rt, &"sound", 0),

@@ -1,5 +1,13 @@
 //! The command `restore` with a folder: which of the chains of copies there it takes.
 
+ghost use Rattle.std.specs.Prelude.{◌≡◌, ◌≤◌, ◌^◌, ◌-◌, All, IfOk, filter, nat_eq, not, unwrap_or};
+ghost use Rattle.std.specs.Prelude.{ℕ, IfSome, MatchOption};
+ghost use Rattle.std.specs.Process.{exit_status};
+ghost use Rattle.file_inputs.specs.CopyChain.{HasChain, IsNewestChain, IsWholeChain};
+ghost use Rattle.file_commands.specs.FolderChains.{from_full};
+ghost use Rattle.file_commands.specs.Statuses.{IsEnd};
+
+use crate::answers::told;
 use crate::restore::{Ended, Outputs, restore_named};
 use checked_files::ManifestUse;
 use command_words::RESTORE_USAGE;
@@ -35,13 +43,15 @@ pub fn restore_folder(
     threads: &(impl Threads + Sync),
     wanted: &FolderRestore<'_>,
     outputs: Outputs<'_>,
-) -> ExitCode {
+) -> ExitCode
+    ensures { exit_status result ≤ 2 }
+{
     if wanted.copy.is_none() && !is_folder(rt, wanted.folder) {
         return ExitCode::from(FAULT_STATUS);
     }
     match restored(rt, threads, wanted, outputs) {
         Ok(status) => status,
-        Err(_) => told_fault(rt, &ViewFault::OutOfMemory),
+        Err(_) => told(rt, &ViewFault::OutOfMemory),
     }
 }
 
@@ -63,21 +73,18 @@ fn is_folder(rt: &HostRuntime, place: &str) -> bool {
     false
 }
 
-fn told_fault(rt: &impl Eprint, fault: &ViewFault) -> ExitCode {
-    let _ = rt.eprintln(fault);
-    ExitCode::from(FAULT_STATUS)
-}
-
 fn restored(
     rt: &HostRuntime,
     threads: &(impl Threads + Sync),
     wanted: &FolderRestore<'_>,
     outputs: Outputs<'_>,
-) -> Result<ExitCode, AllocError> {
+) -> Result<ExitCode, AllocError>
+    ensures { IfOk result (λ status. exit_status status ≤ 2) }
+{
     let (folder, copy) = (wanted.folder, wanted.copy);
     let ids = match ids_in(rt, folder) {
         Ok(ids) => ids,
-        Err(fault) => return Ok(told_fault(rt, &fault)),
+        Err(fault) => return Ok(told(rt, &fault)),
     };
     if has_irregular(rt, folder)? {
         return Ok(ExitCode::from(FAULT_STATUS));
@@ -134,7 +141,10 @@ fn headers_in(
     folder: &str,
     ids: &[u32],
     copy: Option<u32>,
-) -> Result<Vec<CopyHeader>, AllocError> {
+) -> Result<Vec<CopyHeader>, AllocError>
+    ensures { IfOk result (λ headers.
+        All (λ header. header.id ≤ unwrap_or copy (2 ^ 32 - 1)) headers.items) }
+{
     let most = copy.unwrap_or(u32::MAX);
     let mut headers = Vec::new(rt.alloc());
     for id in ids {
@@ -153,7 +163,12 @@ fn chain_in(
     rt: &HostRuntime,
     headers: &[CopyHeader],
     copy: Option<u32>,
-) -> Result<Option<Vec<u32>>, AllocError> {
+) -> Result<Option<Vec<u32>>, AllocError>
+    ensures wanted { IfOk result (λ found. IfSome copy (λ id. MatchOption found
+        (HasChain headers.now id → ⊥) (λ chain. IsWholeChain headers.now id chain.items))) }
+    ensures newest { copy ≡ None → IfOk result (λ found. MatchOption found
+        ((id : ℕ) → HasChain headers.now id → ⊥) (λ chain. IsNewestChain headers.now chain.items)) }
+{
     match copy {
         Some(id) => chain_of(rt.alloc(), headers, id),
         None => newest_chain(rt.alloc(), headers),
@@ -161,17 +176,18 @@ fn chain_in(
 }
 
 /// The copy whose archive stands at this place of a chain, counted from the full one on.
-fn copy_at(chain: &[u32], place: usize) -> Option<u32> {
+fn copy_at(chain: &[u32], place: usize) -> Option<u32>
+    ensures { result ≡ from_full chain.now place }
+{
     let last = chain.len().checked_sub(1)?;
     Some(*chain.get(last.checked_sub(place)?)?)
 }
 
 /// The headers of the other copies.
-fn without(
-    rt: &HostRuntime,
-    headers: &[CopyHeader],
-    id: u32,
-) -> Result<Vec<CopyHeader>, AllocError> {
+fn without(rt: &HostRuntime, headers: &[CopyHeader], id: u32) -> Result<Vec<CopyHeader>, AllocError>
+    ensures { IfOk result (λ others.
+        others.items ≡ filter (λ header. not (nat_eq header.id id)) headers.now) }
+{
     let mut others = Vec::new(rt.alloc());
     for header in headers {
         if header.id != id {
@@ -188,7 +204,9 @@ fn restore_chain(
     wanted: &FolderRestore<'_>,
     chain: &[u32],
     outputs: Outputs<'_>,
-) -> Result<Ended, AllocError> {
+) -> Result<Ended, AllocError>
+    ensures { IfOk result IsEnd }
+{
     let (alloc, folder) = (rt.alloc(), wanted.folder);
     let log = format!(in alloc; "{folder}/log")?;
     let master = format!(in alloc; "{folder}/master")?;
@@ -211,7 +229,9 @@ fn restore_chain(
 }
 
 /// Tells that the copy that is wanted has no whole chain, or that none has, or that there is none.
-fn told_no_chain(rt: &impl Eprint, folder: &str, copy: Option<u32>, is_bare: bool) -> ExitCode {
+fn told_no_chain(rt: &impl Eprint, folder: &str, copy: Option<u32>, is_bare: bool) -> ExitCode
+    ensures { exit_status result ≡ 1 }
+{
     let fault = RestoreFault::ChainBroken(CopyId(copy.unwrap_or(0)));
     let _ = rt.eprintln(&fault);
     let folder = Escaped(folder);

@@ -1,5 +1,10 @@
 //! The command `redo`: the volume of the log that comes on standard input.
 
+ghost use Rattle.std.specs.Prelude.{◌≡◌, ◌⊎◌};
+ghost use Rattle.std.specs.Process.{exit_status};
+ghost use Rattle.file_outputs.specs.declared.limits.Inputs.TheVariants.{Standard};
+ghost use Rattle.file_commands.specs.Redone.{IsRedo, IsRedoUntil};
+
 use crate::answers::{refused_terminal, told};
 use file_inputs::{noted, patient, tell_input_until, tell_redo, tell_unread, tell_unwritten};
 use file_outputs::{
@@ -22,7 +27,9 @@ pub fn redo_log(
     output: VolumeOutput<'_>,
     force: bool,
     until: Option<Lsn>,
-) -> ExitCode {
+) -> ExitCode
+    ensures { (exit_status result ≡ 0) ⊎ (exit_status result ≡ 2) }
+{
     match (output, until) {
         (VolumeOutput::File(path), None) => redo_into(rt, path, force),
         (VolumeOutput::File(path), Some(until)) => redo_until_into(rt, path, force, until),
@@ -32,7 +39,9 @@ pub fn redo_log(
 }
 
 /// Rebuilds it to standard output.
-fn redo_out(rt: &HostRuntime, until: Option<Lsn>) -> ExitCode {
+fn redo_out(rt: &HostRuntime, until: Option<Lsn>) -> ExitCode
+    ensures { (exit_status result ≡ 0) ⊎ (exit_status result ≡ 2) }
+{
     let (input, output) = (Notes::new(), Notes::new());
     let mut log = noted(patient(rt, rt.stdin()), &input);
     let mut volume = noted(patient(rt, io::writer(rt)), &output);
@@ -48,13 +57,15 @@ fn redo_through<R: Read, W: Write>(
     log: &mut R,
     volume: &mut W,
     notes: (&Notes, &Notes),
-) -> ExitCode {
-    let done = redo_stream(rt.alloc(), log, volume);
-    match &done {
+) -> ExitCode
+    ensures { IsRedo (R.remaining log.old) (W.contents volume.old) (W.contents volume.new)
+        (exit_status result) }
+{
+    match redo_stream(rt.alloc(), log, volume) {
         Ok(()) => ExitCode::SUCCESS,
         Err(fault) => {
-            let status = told(rt, fault);
-            match fault {
+            let status = told(rt, &fault);
+            match &fault {
                 StreamFault::WriteFault(_) => tell_unwritten(rt, notes.1),
                 fault => tell_read(rt, fault, notes.0),
             }
@@ -70,13 +81,15 @@ fn redo_through_until<R: Read, W: Write>(
     until: Lsn,
     volume: &mut W,
     notes: (&Notes, &Notes),
-) -> ExitCode {
-    let done = redo_until(rt.alloc(), log, until, volume);
-    match &done {
+) -> ExitCode
+    ensures { IsRedoUntil (R.remaining log.old) until (W.contents volume.old)
+        (W.contents volume.new) (exit_status result) }
+{
+    match redo_until(rt.alloc(), log, until, volume) {
         Ok(()) => ExitCode::SUCCESS,
         Err(fault) => {
-            let status = told(rt, fault);
-            match fault {
+            let status = told(rt, &fault);
+            match &fault {
                 UntilFault::WriteFault(_) => tell_unwritten(rt, notes.1),
                 fault => tell_input_until(rt, fault, notes.0),
             }
@@ -86,7 +99,9 @@ fn redo_through_until<R: Read, W: Write>(
 }
 
 /// Rebuilds the volume of all of the log on standard input, into a file.
-fn redo_into(rt: &HostRuntime, path: &str, force: bool) -> ExitCode {
+fn redo_into(rt: &HostRuntime, path: &str, force: bool) -> ExitCode
+    ensures { (exit_status result ≡ 0) ⊎ (exit_status result ≡ 2) }
+{
     let (input, written) = (Notes::new(), Notes::new());
     let Some(mut folder) = OutputFolder::of(rt, path, limits_of(force), &written) else {
         return ExitCode::from(FAULT_STATUS);
@@ -113,7 +128,9 @@ fn redo_into(rt: &HostRuntime, path: &str, force: bool) -> ExitCode {
 }
 
 /// Rebuilds the volume of the log on standard input up to the record at an LSN, into a file.
-fn redo_until_into(rt: &HostRuntime, path: &str, force: bool, until: Lsn) -> ExitCode {
+fn redo_until_into(rt: &HostRuntime, path: &str, force: bool, until: Lsn) -> ExitCode
+    ensures { (exit_status result ≡ 0) ⊎ (exit_status result ≡ 2) }
+{
     let (input, written) = (Notes::new(), Notes::new());
     let Some(mut folder) = OutputFolder::of(rt, path, limits_of(force), &written) else {
         return ExitCode::from(FAULT_STATUS);
@@ -141,7 +158,9 @@ fn redo_until_into(rt: &HostRuntime, path: &str, force: bool, until: Lsn) -> Exi
 }
 
 /// What a redo may not replace: the file on standard input, and what is kept.
-fn limits_of(force: bool) -> Limits<'static> {
+fn limits_of(force: bool) -> Limits<'static>
+    ensures { result ≡ record { inputs = Standard; force = force } }
+{
     Limits {
         inputs: Inputs::Standard,
         force,

@@ -1,11 +1,13 @@
 //! The command `restore`.
 
-ghost use Rattle.std.specs.Prelude.{◌≡◌, IfErr, OnOk};
+ghost use Rattle.std.specs.Prelude.{◌≡◌, IfSome, None};
 ghost use Rattle.std.specs.Process.{exit_status};
 ghost use Rattle.media_restore.specs.FilesLog.{told_fault};
+ghost use Rattle.saved_files.specs.Restored.{files_by};
 ghost use Rattle.script_run.specs.Status.{status_of_restore};
+ghost use Rattle.file_commands.specs.Statuses.{IsEnd, IsOfArchive, IsOfFault, IsRestore, IsToldOf};
 ghost use Rattle.file_commands.specs.Statuses.{status_of_end};
-ghost use Rattle.file_commands.specs.declared.restore.Ended.TheVariants.{Well};
+ghost use Rattle.file_commands.specs.declared.restore.Ended.TheVariants.{Told};
 
 use crate::answers::refused_terminal;
 use crate::untils::restore_until;
@@ -21,6 +23,7 @@ use saved_files::{
 };
 use script_run::{FAULT_STATUS, restore_status};
 use std::io;
+use std::io::Write;
 use std::process::ExitCode;
 use std::thread::Threads;
 use system_files::{Notes, SystemFiles};
@@ -46,7 +49,7 @@ pub enum Ended {
 impl Ended {
     /// A fault was told that is no archive's.
     pub fn refused(status: ExitCode) -> Ended
-        ensures { status_of_end result ≡ exit_status status }
+        ensures { result ≡ Told status None }
     {
         Ended::Told(status, None)
     }
@@ -70,7 +73,9 @@ pub fn restore_named(
     names: &InputNames<'_>,
     master: &str,
     outputs: Outputs<'_>,
-) -> Ended {
+) -> Ended
+    ensures { IsEnd result }
+{
     let notes = Notes::new();
     let Some(checks) = Checks::of(rt, names) else {
         return Ended::refused(ExitCode::from(FAULT_STATUS));
@@ -82,14 +87,16 @@ pub fn restore_named(
     ended
 }
 
-/// The same, from files of which it is known what manifests say.
+/// Restores a volume from files of which it is known what manifests say.
 fn restore_checked(
     rt: &HostRuntime,
     threads: &(impl Threads + Sync),
     read: (&InputNames<'_>, &Notes, &Checks<'_>),
     master: &str,
     outputs: Outputs<'_>,
-) -> Ended {
+) -> Ended
+    ensures { IsEnd result }
+{
     let (names, notes, _) = read;
     if let Some(until) = names.until {
         return restore_until(rt, threads, read, master, outputs, until);
@@ -98,7 +105,7 @@ fn restore_checked(
     restore_from(rt, threads, &files, read, master, outputs)
 }
 
-/// The same, from files that are read by their names, of which the notes know why one was not read.
+/// Restores a volume from files that are read by their names. The notes know why one was not read.
 pub fn restore_from<N: NamedFiles>(
     rt: &HostRuntime,
     threads: &(impl Threads + Sync),
@@ -106,7 +113,9 @@ pub fn restore_from<N: NamedFiles>(
     read: (&InputNames<'_>, &Notes, &Checks<'_>),
     master: &str,
     outputs: Outputs<'_>,
-) -> Ended {
+) -> Ended
+    ensures { IsEnd result }
+{
     let (names, _, checks) = read;
     let files = CheckedFiles {
         files,
@@ -132,20 +141,29 @@ pub fn restore_from<N: NamedFiles>(
         (VolumeOutput::File(path), Some(log)) => {
             restore_both_into(rt, threads, &files, read, from, (path, log, limits))
         }
-        (_, None) => restore_out(rt, threads, &files, read, from),
+        (_, None) => {
+            let output = Notes::new();
+            let mut volume = noted(patient(rt, io::writer(rt)), &output);
+            restore_out(rt, threads, &files, read, from, &mut volume, &output)
+        }
         (_, Some(log)) => restore_log_into(rt, threads, &files, read, from, (log, limits)),
     }
 }
 
-/// Restores a volume to standard output.
-fn restore_out<N: NamedFiles>(
+/// Restores a volume to a writer, which is standard output. Its notes know why it failed.
+fn restore_out<N: NamedFiles, W: Write>(
     rt: &HostRuntime,
     threads: &(impl Threads + Sync),
     files: &N,
     read: (&InputNames<'_>, &Notes, &Checks<'_>),
     from: RestoreNames<'_>,
-) -> Ended {
-    let output = Notes::new();
+    volume: &mut W,
+    output: &Notes,
+) -> Ended
+    ensures end { IsEnd result }
+    ensures volume { IsRestore (files_by (N.bytes files.now) from.entry)
+        (W.contents volume.old) (W.contents volume.new) result }
+{
     let done = restore_volume(
         files,
         threads,
@@ -153,12 +171,15 @@ fn restore_out<N: NamedFiles>(
         from.log,
         from.master,
         from.archives,
-        &mut noted(patient(rt, io::writer(rt)), &output),
+        volume,
     );
-    told(rt, read, &done, (None, &output))
+    match done {
+        Ok(()) => Ended::Well,
+        Err(fault) => told(rt, read, &fault, (None, output)),
+    }
 }
 
-/// The same, into a file.
+/// Restores a volume into a file.
 fn restore_into<N: NamedFiles>(
     rt: &HostRuntime,
     threads: &(impl Threads + Sync),
@@ -166,7 +187,9 @@ fn restore_into<N: NamedFiles>(
     read: (&InputNames<'_>, &Notes, &Checks<'_>),
     from: RestoreNames<'_>,
     output: (&str, Limits<'_>),
-) -> Ended {
+) -> Ended
+    ensures { IsEnd result }
+{
     let ((path, limits), written) = (output, Notes::new());
     let Some(mut folder) = OutputFolder::of(rt, path, limits, &written) else {
         return Ended::refused(ExitCode::from(FAULT_STATUS));
@@ -175,7 +198,7 @@ fn restore_into<N: NamedFiles>(
     match put_restored_volume(&mut folder, rt.alloc(), name, files, threads, from) {
         Ok(()) => Ended::Well,
         Err(PutStoredFault::Unput(PutFault::Unwritten(fault))) => {
-            told(rt, read, &Err(fault), (Some(path), &written))
+            told(rt, read, &fault, (Some(path), &written))
         }
         Err(fault) => {
             folder.tell_unput(&fault);
@@ -193,7 +216,9 @@ fn restore_log_into<N: NamedFiles>(
     read: (&InputNames<'_>, &Notes, &Checks<'_>),
     from: RestoreNames<'_>,
     output: (&str, Limits<'_>),
-) -> Ended {
+) -> Ended
+    ensures { IsEnd result }
+{
     let (log, limits) = output;
     let (output, written) = (Notes::new(), Notes::new());
     let Some(mut folder) = OutputFolder::of(rt, log, limits, &written) else {
@@ -225,7 +250,9 @@ fn restore_both_into<N: NamedFiles>(
     read: (&InputNames<'_>, &Notes, &Checks<'_>),
     from: RestoreNames<'_>,
     outputs: (&str, &str, Limits<'_>),
-) -> Ended {
+) -> Ended
+    ensures { IsEnd result }
+{
     let (path, log, limits) = outputs;
     if is_one_place(rt, path, log) {
         tell(rt, log, &"the volume is to be written there, too");
@@ -263,7 +290,7 @@ fn restore_both_into<N: NamedFiles>(
     }
 }
 
-/// The same as `told`, where the log was to be written, too.
+/// Tells the fault of a restore that was to write the log, too, as `told` does.
 fn told_with_log(
     rt: &HostRuntime,
     read: (&InputNames<'_>, &Notes, &Checks<'_>),
@@ -271,11 +298,12 @@ fn told_with_log(
     volume: (Option<&str>, &Notes),
     log: (Option<&str>, &Notes),
 ) -> Ended
-    ensures { status_of_end result ≡ status_of_restore (told_fault fault) }
+    ensures told { IsToldOf (told_fault fault) result }
+    ensures end { IsEnd result }
 {
     match fault {
-        WithLogFault::OfLog(_) => told(rt, read, &Err(fault.told()), log),
-        WithLogFault::OfVolume(fault) => told(rt, read, &Err(fault), volume),
+        WithLogFault::OfLog(_) => told(rt, read, &fault.told(), log),
+        WithLogFault::OfVolume(fault) => told(rt, read, &fault, volume),
     }
 }
 
@@ -284,18 +312,15 @@ fn told_with_log(
 fn told(
     rt: &HostRuntime,
     read: (&InputNames<'_>, &Notes, &Checks<'_>),
-    done: &Result<(), RestoreFault>,
+    fault: &RestoreFault,
     output: (Option<&str>, &Notes),
 ) -> Ended
-    ensures done { OnOk done.now (result ≡ Well) }
-    ensures fault { IfErr done.now (λ fault. status_of_end result ≡ status_of_restore fault) }
+    ensures told { IsToldOf fault.now result }
+    ensures end { IsEnd result }
 {
-    let status = status_of_files(rt, done);
-    let Err(fault) = done else {
-        return Ended::Well;
-    };
+    let status = told_restore(rt, fault);
     tell_met(rt, read, fault, output);
-    Ended::Told(status, spoiled_by(done, read.1))
+    Ended::Told(status, spoiled_by(fault, read.1.read_last()))
 }
 
 /// Tells where a fault was met that was told.
@@ -315,10 +340,12 @@ fn tell_met(
 
 /// The archive that could not be read, or that is none by itself. Where one does not go with the
 /// log, it may be the log that is wrong.
-fn spoiled_by(done: &Result<(), RestoreFault>, notes: &Notes) -> Option<usize> {
-    match done {
-        Err(RestoreFault::ReadFault | RestoreFault::BadArchive(_) | RestoreFault::CountDiffers) =>
-            notes.read_last()?.checked_sub(FIRST_ARCHIVE),
+fn spoiled_by(fault: &RestoreFault, read_last: Option<usize>) -> Option<usize>
+    ensures { IfSome result (λ archive. IsOfArchive fault.now read_last archive) }
+{
+    match fault {
+        RestoreFault::ReadFault | RestoreFault::BadArchive(_) | RestoreFault::CountDiffers =>
+            read_last?.checked_sub(FIRST_ARCHIVE),
         _ => None,
     }
 }
@@ -365,15 +392,10 @@ fn tell_unput<E>(log: &OutputFolder<'_>, volume: &OutputFolder<'_>, fault: &PutB
 }
 
 /// Tells why a volume is not restored from files, and answers the program's status.
-fn status_of_files(rt: &impl Eprint, done: &Result<(), RestoreFault>) -> ExitCode
-    ensures done { OnOk done.now (exit_status result ≡ 0) }
-    ensures fault { IfErr done.now (λ fault. exit_status result ≡ status_of_restore fault) }
+fn told_restore(rt: &impl Eprint, fault: &RestoreFault) -> ExitCode
+    ensures told { exit_status result ≡ status_of_restore fault.now }
+    ensures fault { IsOfFault (exit_status result) }
 {
-    match done {
-        Ok(()) => ExitCode::SUCCESS,
-        Err(fault) => {
-            let _ = rt.eprintln(fault);
-            ExitCode::from(restore_status(fault))
-        }
-    }
+    let _ = rt.eprintln(fault);
+    ExitCode::from(restore_status(fault))
 }

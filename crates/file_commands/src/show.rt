@@ -1,6 +1,6 @@
 //! The command `show`.
 
-ghost use Rattle.std.specs.Prelude.{◌≡◌, IfErr, OnOk};
+ghost use Rattle.std.specs.Prelude.{◌≡◌, ◌⊎◌, IfErr, OnOk};
 ghost use Rattle.std.specs.Process.{exit_status};
 
 use file_inputs::{bytes_of, noted, patient, tell_unwritten, tell_view};
@@ -11,7 +11,9 @@ use std::process::ExitCode;
 use system_files::Notes;
 
 /// Shows a file.
-pub fn show_named(rt: &HostRuntime, name: &str, wanted: &Wanted, form: Form) -> ExitCode {
+pub fn show_named(rt: &HostRuntime, name: &str, wanted: &Wanted, form: Form) -> ExitCode
+    ensures { (exit_status result ≡ 0) ⊎ (exit_status result ≡ 2) }
+{
     let (input, output) = (Notes::new(), Notes::new());
     let done = shown(rt, name, wanted, form, &input, &output);
     let status = status_of_view(rt, &done);

@@ -1,5 +1,8 @@
 //! The commands `restore` and `audit` of a log up to one of its records.
 
+ghost use Rattle.std.specs.Prelude.{◌≡◌, ◌≤◌};
+ghost use Rattle.std.specs.Process.{exit_status};
+ghost use Rattle.file_commands.specs.Statuses.{IsEnd};
 
 use crate::answers::{answered, told};
 use crate::audit::{audit_checked, told_unkept};
@@ -23,7 +26,9 @@ pub fn restore_until(
     master: &str,
     outputs: Outputs<'_>,
     until: Lsn,
-) -> Ended {
+) -> Ended
+    ensures { IsEnd result }
+{
     let (names, notes, _) = read;
     let log = InputNames {
         log: names.log,
@@ -48,12 +53,9 @@ pub fn restore_until(
 }
 
 /// Tells that a log that can be read but once was not read whole.
-fn told_unread(
-    rt: &HostRuntime,
-    log: &InputNames<'_>,
-    fault: &ViewFault,
-    notes: &Notes,
-) -> ExitCode {
+fn told_unread(rt: &HostRuntime, log: &InputNames<'_>, fault: &ViewFault, notes: &Notes) -> ExitCode
+    ensures { exit_status result ≡ 2 }
+{
     let fault = match fault {
         ViewFault::OutOfMemory => RestoreFault::OutOfMemory,
         _ => RestoreFault::ReadFault,
@@ -70,7 +72,9 @@ pub fn audit_until(
     read: (&InputNames<'_>, &Notes, &Checks<'_>),
     all: bool,
     until: Lsn,
-) -> ExitCode {
+) -> ExitCode
+    ensures { exit_status result ≤ 2 }
+{
     let (names, notes, checks) = read;
     let names = &InputNames {
         log: names.log,
