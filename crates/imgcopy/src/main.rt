@@ -1,13 +1,16 @@
 //! The program: its words, its input and output, and its status.
 #![tactic(auto)]
 
-ghost use Rattle.std.specs.Prelude.{ℕ, ◌≡◌, ◌≢◌, IfErr, IfSome, List, None, OnOk, Option};
+ghost use Rattle.std.specs.Prelude.{ℕ, ◌≡◌, ◌≢◌, ◌≤◌, IfErr, IfOk, IfSome, List, None, OnOk, Option};
+ghost use Rattle.std.specs.Prelude.{if◌then◌else◌};
 ghost use Rattle.std.specs.Process.{exit_status};
 ghost use Rattle.buffer_pool.specs.Pool.{IsFrameCount};
 ghost use Rattle.log_records.specs.Log.{IsPageCount};
 ghost use Rattle.open_database.specs.WholeLives.{LivedByAllLines};
+ghost use Rattle.file_view.specs.declared.lines.Form.TheVariants.{Json, Words};
+ghost use Rattle.script_run.specs.Run.{RunLeaves};
 ghost use Rattle.script_run.specs.Status.{status_of_finish};
-ghost use Rattle.imgcopy.specs.Ends.{status_of_opened};
+ghost use Rattle.imgcopy.specs.Ends.{IsPlayed, status_of_opened};
 
 mod closing;
 mod folder_commands;
@@ -252,11 +255,15 @@ fn main(rt: HostRuntime) -> ExitCode {
     }
 }
 
-fn form_of(json: bool) -> Form {
+fn form_of(json: bool) -> Form
+    ensures { result ≡ (if json then Json else Words) }
+{
     if json { Form::Json } else { Form::Words }
 }
 
-fn lsn_of(number: Option<u32>) -> Option<Lsn> {
+fn lsn_of(number: Option<u32>) -> Option<Lsn>
+    ensures { result ≡ number }
+{
     Some(Lsn(number? as u64))
 }
 
@@ -270,6 +277,7 @@ fn run(
 ) -> ExitCode
     requires pages { IsPageCount setup.pages }
     requires frames { IsFrameCount setup.frames }
+    ensures { exit_status result ≤ 2 }
 {
     if save.is_some_and(|save| !save.may_begin(rt)) {
         return ExitCode::from(FAULT_STATUS);
@@ -323,6 +331,11 @@ fn played<R: Read, W: Write>(
 ) -> Result<u8, ScriptRunFault>
     requires pages { IsPageCount setup.pages }
     requires frames { IsFrameCount setup.frames }
+    ensures played { IfOk result (λ status. IsPlayed setup.pages setup.frames
+        (R.remaining reader.old) (W.contents writer.old) (W.contents writer.new)) }
+    ensures status { IfOk result (λ status. status ≤ 2) }
+    ensures err { IfErr result (RunLeaves setup.pages setup.frames
+        (R.remaining reader.old) (W.contents writer.old) (W.contents writer.new)) }
 {
     let ran = run_script(rt.alloc(), setup, reader, writer)?;
     Ok(finish(rt, threads, ran, save))
@@ -334,7 +347,9 @@ fn finish(
     threads: &(impl Threads + Sync),
     ran: Ran,
     save: Option<Saving<'_>>,
-) -> u8 {
+) -> u8
+    ensures { result ≤ 2 }
+{
     if let Some(save) = save {
         if !save.save(rt, &ran.retired) {
             return FAULT_STATUS;

@@ -1,6 +1,8 @@
 //! Which calls of a run were refused, for `run --strict`.
 
-ghost use Rattle.std.specs.Prelude.{◌≡◌};
+ghost use Rattle.std.specs.Prelude.{◌≡◌, ◌≤◌, false, fold, length, take};
+ghost use Rattle.std.specs.Bool.{OnFalse};
+ghost use Rattle.imgcopy.specs.Strict.{IsFrontOf, IsNew, begun, counted, counts_of, first_of};
 
 use std::io::{Read, Write};
 use std::{fmt, io};
@@ -20,7 +22,9 @@ pub struct Kept<R> {
 
 impl<R> Kept<R> {
     /// Reads on from a reader of which these bytes were read, and keeps at most so many.
-    pub fn new(reader: R, bytes: Vec<u8>, most: usize) -> Kept<R> {
+    pub fn new(reader: R, bytes: Vec<u8>, most: usize) -> Kept<R>
+        ensures { result ≡ record { reader = reader; bytes = bytes; most = most; is_cut = false } }
+    {
         Kept {
             reader,
             bytes,
@@ -30,7 +34,10 @@ impl<R> Kept<R> {
     }
 
     /// What was kept, without the line that is cut off.
-    pub fn given(&self) -> &[u8] {
+    pub fn given(&self) -> &[u8]
+        ensures front { IsFrontOf result.now self.now.bytes.items }
+        ensures whole { OnFalse self.now.is_cut (result.now ≡ self.now.bytes.items) }
+    {
         let bytes = self.bytes.as_slice();
         if !self.is_cut {
             return bytes;
@@ -77,7 +84,11 @@ pub struct Tallied<W> {
 
 impl<W> Tallied<W> {
     /// A writer whose lines are counted, if they are to be.
-    pub fn new(writer: W, counts: bool) -> Tallied<W> {
+    pub fn new(writer: W, counts: bool) -> Tallied<W>
+        ensures writer { result.writer ≡ writer }
+        ensures counts { result.counts ≡ counts }
+        ensures new { IsNew result.tally }
+    {
         Tallied {
             writer,
             counts,
@@ -86,7 +97,9 @@ impl<W> Tallied<W> {
     }
 
     /// How many lines went through, and of which kind.
-    pub fn tally(&self) -> &Tally {
+    pub fn tally(&self) -> &Tally
+        ensures { result.now ≡ self.now.tally }
+    {
         &self.tally
     }
 }
@@ -122,7 +135,9 @@ pub struct Tally {
 }
 
 impl Tally {
-    fn new() -> Tally {
+    fn new() -> Tally
+        ensures { IsNew result }
+    {
         Tally {
             calls: 0,
             refused: 0,
@@ -135,7 +150,9 @@ impl Tally {
     }
 
     /// The place of the first refused call, if there is one.
-    pub fn first_refused(&self) -> Option<u64> {
+    pub fn first_refused(&self) -> Option<u64>
+        ensures { result ≡ first_of self.now }
+    {
         if self.refused == 0 {
             return None;
         }
@@ -143,7 +160,10 @@ impl Tally {
     }
 
     /// Takes the first bytes of a buffer, so many.
-    fn take_first(&mut self, buf: &[u8], count: usize) {
+    fn take_first(&mut self, buf: &[u8], count: usize)
+        ensures { count ≤ length buf.now
+            → counts_of self.new ≡ fold counted (counts_of self.old) (take count buf.now) }
+    {
         if let Some(taken) = buf.get(..count) {
             for byte in taken {
                 self.take(*byte);
@@ -152,7 +172,9 @@ impl Tally {
     }
 
     /// Takes one more byte of the replies' lines.
-    fn take(&mut self, byte: u8) {
+    fn take(&mut self, byte: u8)
+        ensures { counts_of self.new ≡ counted (counts_of self.old) byte }
+    {
         if self.begins_line {
             self.begin_line(byte);
         }
@@ -167,7 +189,9 @@ impl Tally {
         }
     }
 
-    fn begin_line(&mut self, byte: u8) {
+    fn begin_line(&mut self, byte: u8)
+        ensures { counts_of self.new ≡ begun (counts_of self.old) byte }
+    {
         if byte != b'E' {
             return;
         }
