@@ -5,6 +5,7 @@ ghost use Rattle.std.specs.Process.{exit_status};
 ghost use Rattle.script_run.specs.Status.{status_of_audit};
 ghost use Rattle.checked_files.specs.Checked.{bytes_by};
 ghost use Rattle.file_commands.specs.Statuses.{IsOfFault};
+ghost use Rattle.file_inputs.specs.EarlyMaster.{bytes_with};
 ghost use Rattle.file_inputs.specs.ReadFiles.{HasRightMaster, IsAudited};
 
 use crate::answers::{answered, told_unprinted};
@@ -12,10 +13,10 @@ use crate::untils::audit_until;
 use checked_files::CheckedFiles;
 use copy_audit::{Sound, Unsound};
 use copy_vault::CopyId;
-use file_inputs::{Checks, InputNames, ReadOnce};
+use file_inputs::{Checks, EarlyMaster, InputNames, MasterFirst, ReadOnce, checks_and_master};
 use file_view::ViewFault;
-use page_core::PageNo;
-use saved_files::{NamedFiles, audit_files, check_master, unsound_pages};
+use page_core::{Lsn, PageNo};
+use saved_files::{NamedFiles, UntilFiles, audit_files, check_master, unsound_pages};
 use script_run::{FAULT_STATUS, audit_status, restore_status};
 use std::process::ExitCode;
 use system_files::{Notes, SystemFiles};
@@ -27,10 +28,10 @@ pub fn audit_named(rt: &HostRuntime, names: &InputNames<'_>, all: bool) -> ExitC
     ensures { exit_status result ≤ 2 }
 {
     let notes = Notes::new();
-    let Some(checks) = Checks::of(rt, names) else {
+    let Some((checks, master)) = checks_and_master(rt, names) else {
         return ExitCode::from(FAULT_STATUS);
     };
-    let status = audit_known(rt, (names, &notes, &checks), all);
+    let status = audit_known(rt, (names, &notes, &checks), &master, all);
     if status == ExitCode::SUCCESS {
         checks.tell_unnamed(rt);
     }
@@ -41,6 +42,7 @@ pub fn audit_named(rt: &HostRuntime, names: &InputNames<'_>, all: bool) -> ExitC
 fn audit_known(
     rt: &HostRuntime,
     read: (&InputNames<'_>, &Notes, &Checks<'_>),
+    master: &Option<EarlyMaster>,
     all: bool,
 ) -> ExitCode
     ensures { exit_status result ≤ 2 }
@@ -54,9 +56,25 @@ fn audit_known(
         return audit_checked(rt, &files, read, all);
     }
     match ReadOnce::of(rt, names, notes) {
-        Ok(files) => audit_checked(rt, &&files, read, all),
+        Ok(files) => audit_early(rt, &&files, read, master, all),
         Err(fault) => told_unkept(rt, read, &fault),
     }
+}
+
+/// Audits files of which the master record was read before the others.
+fn audit_early<N: NamedFiles>(
+    rt: &HostRuntime,
+    files: &N,
+    read: (&InputNames<'_>, &Notes, &Checks<'_>),
+    master: &Option<EarlyMaster>,
+    all: bool,
+) -> ExitCode
+    ensures sound { exit_status result ≡ 0
+        → IsAudited (bytes_by (bytes_with (N.bytes files.now) master.now)
+        read.entry.2.now.expected.items) read.entry.0.now }
+    ensures status { exit_status result ≤ 2 }
+{
+    audit_checked(rt, &MasterFirst { files, master }, read, all)
 }
 
 /// Tells that an input that can be read but once was not read whole.
@@ -144,6 +162,74 @@ fn refused_master<N: NamedFiles>(
             Some(status)
         }
     }
+}
+
+/// The copy of which a page is not what the log made of it, where the chain has an archive that no
+/// manifest names. It is told, with the status that an audit ends with. What else is wrong with the
+/// files is for the restore to tell, which meets it too.
+pub fn unsound_in(
+    rt: &HostRuntime,
+    known: (&InputNames<'_>, &Checks<'_>),
+) -> Option<(ExitCode, CopyId)>
+    ensures { IfSome result (λ it. IsOfFault (exit_status it.0)) }
+{
+    let (names, checks) = known;
+    if checks.compares(names.archives) {
+        return None;
+    }
+    let notes = Notes::new();
+    let Err(fault) = audit_quietly(rt, known, &notes) else {
+        return None;
+    };
+    let Unsound::Unsound(copy, _) = fault else {
+        return None;
+    };
+    let _ = rt.eprintln(&fault);
+    checks.tell_audited(rt, names, &fault, &notes);
+    Some((ExitCode::from(audit_status(&fault)), copy))
+}
+
+/// Audits a chain against its log, or against the front of it that counts, and prints nothing.
+fn audit_quietly(
+    rt: &HostRuntime,
+    known: (&InputNames<'_>, &Checks<'_>),
+    notes: &Notes,
+) -> Result<Sound, Unsound> {
+    let files = &SystemFiles { files: rt, notes };
+    match known.0.until {
+        None => audit_compared(rt, files, known),
+        Some(until) => audit_front(rt, files, known.0.log, known, until),
+    }
+}
+
+/// Audits files against the front of the log that ends with the record at this LSN. Where that record
+/// is not there, it is for the restore to tell.
+fn audit_front<'a, N: NamedFiles>(
+    rt: &HostRuntime,
+    files: &'a N,
+    log: &'a str,
+    known: (&InputNames<'_>, &Checks<'_>),
+    until: Lsn,
+) -> Result<Sound, Unsound> {
+    match UntilFiles::new(files, rt.alloc(), log, None, until) {
+        Ok(files) => audit_compared(rt, &files, known),
+        Err(_) => Ok(Sound),
+    }
+}
+
+/// Audits files that are compared where a manifest names them, and prints nothing.
+fn audit_compared<N: NamedFiles>(
+    rt: &HostRuntime,
+    files: &N,
+    known: (&InputNames<'_>, &Checks<'_>),
+) -> Result<Sound, Unsound> {
+    let (names, checks) = known;
+    let files = CheckedFiles {
+        files,
+        expected: checks.expected.as_slice(),
+        notes: &checks.notes,
+    };
+    audit_files(&files, rt.alloc(), names.log, names.archives)
 }
 
 /// Tells the other unsound pages, each with the first copy up to which the chain has it so.

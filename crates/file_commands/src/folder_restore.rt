@@ -8,12 +8,14 @@ ghost use Rattle.file_commands.specs.FolderChains.{from_full};
 ghost use Rattle.file_commands.specs.Statuses.{IsEnd};
 
 use crate::answers::told;
-use crate::restore::{Ended, Outputs, restore_named};
+use crate::audit::unsound_in;
+use crate::restore::{Ended, Outputs, restore_known};
 use checked_files::ManifestUse;
 use command_words::RESTORE_USAGE;
 use copy_vault::CopyId;
 use file_inputs::{
-    InputNames, chain_of, header_of, ids_in, is_irregular, newest_chain, tell_irregular,
+    InputNames, chain_of, checks_and_master, header_of, ids_in, is_irregular, newest_chain,
+    tell_irregular,
 };
 use file_view::{CopyHeader, ViewFault};
 use media_restore::RestoreFault;
@@ -36,8 +38,10 @@ pub struct FolderRestore<'a> {
 }
 
 /// Restores a volume from the files in a folder: from the newest chain of copies that is whole, or
-/// from that of the copy of this number. Where an archive of the newest one cannot be read, or is
-/// none, this is told, and the newest chain without it is tried. It is told which one was taken.
+/// from that of the copy of this number. A chain that has an archive which no manifest names is
+/// audited first. Where an archive of the newest chain cannot be read, is none, or has a page that
+/// is not what the log made of it, this is told, and the newest chain without it is tried. It is
+/// told which one was taken.
 pub fn restore_folder(
     rt: &HostRuntime,
     threads: &(impl Threads + Sync),
@@ -225,7 +229,35 @@ fn restore_chain(
         until: wanted.until,
         manifest: wanted.manifest,
     };
-    Ok(restore_named(rt, threads, &names, master.as_str(), outputs))
+    let master = master.as_str();
+    Ok(restore_audited(rt, threads, &names, master, chain, outputs))
+}
+
+/// Restores a volume from a chain, which is audited first where one of its archives stands in no
+/// manifest. It is told which copy is not what the log made of it.
+fn restore_audited(
+    rt: &HostRuntime,
+    threads: &(impl Threads + Sync),
+    names: &InputNames<'_>,
+    master: &str,
+    chain: &[u32],
+    outputs: Outputs<'_>,
+) -> Ended
+    ensures { IsEnd result }
+{
+    let Some((checks, early)) = checks_and_master(rt, names) else {
+        return Ended::refused(ExitCode::from(FAULT_STATUS));
+    };
+    let known = (names, &checks);
+    if let Some((status, CopyId(copy))) = unsound_in(rt, known) {
+        return Ended::Told(status, place_of(chain, copy));
+    }
+    restore_known(rt, threads, known, (master, &early), outputs)
+}
+
+/// The place of a copy's archive in a chain, counted from the full one on.
+fn place_of(chain: &[u32], copy: u32) -> Option<usize> {
+    chain.iter().rev().position(|id| *id == copy)
 }
 
 /// Tells that the copy that is wanted has no whole chain, or that none has, or that there is none.

@@ -12,7 +12,10 @@ ghost use Rattle.file_commands.specs.declared.restore.Ended.TheVariants.{Told};
 use crate::answers::refused_terminal;
 use crate::untils::restore_until;
 use checked_files::CheckedFiles;
-use file_inputs::{Checks, FIRST_ARCHIVE, InputNames, noted, patient, tell_unwritten};
+use file_inputs::{
+    Checks, EarlyMaster, FIRST_ARCHIVE, InputNames, MasterFirst, checks_and_master, noted, patient,
+    tell_unwritten,
+};
 use file_outputs::{
     Inputs, Limits, OutputFolder, VolumeOutput, have_one_folder, is_one_place, tell, tell_output,
 };
@@ -76,11 +79,25 @@ pub fn restore_named(
 ) -> Ended
     ensures { IsEnd result }
 {
-    let notes = Notes::new();
-    let Some(checks) = Checks::of(rt, names) else {
+    let Some((checks, early)) = checks_and_master(rt, names) else {
         return Ended::refused(ExitCode::from(FAULT_STATUS));
     };
-    let ended = restore_checked(rt, threads, (names, &notes, &checks), master, outputs);
+    restore_known(rt, threads, (names, &checks), (master, &early), outputs)
+}
+
+/// Restores a volume from files of which it is known what manifests say. Those that the manifest
+/// does not name which counts for them are told once the volume is restored.
+pub fn restore_known(
+    rt: &HostRuntime,
+    threads: &(impl Threads + Sync),
+    known: (&InputNames<'_>, &Checks<'_>),
+    master: (&str, &Option<EarlyMaster>),
+    outputs: Outputs<'_>,
+) -> Ended
+    ensures { IsEnd result }
+{
+    let ((names, checks), notes) = (known, Notes::new());
+    let ended = restore_checked(rt, threads, (names, &notes, checks), master, outputs);
     if matches!(ended, Ended::Well) {
         checks.tell_unnamed(rt);
     }
@@ -92,17 +109,33 @@ fn restore_checked(
     rt: &HostRuntime,
     threads: &(impl Threads + Sync),
     read: (&InputNames<'_>, &Notes, &Checks<'_>),
-    master: &str,
+    master: (&str, &Option<EarlyMaster>),
     outputs: Outputs<'_>,
 ) -> Ended
     ensures { IsEnd result }
 {
-    let (names, notes, _) = read;
+    let ((names, notes, _), (master, early)) = (read, master);
     if let Some(until) = names.until {
         return restore_until(rt, threads, read, master, outputs, until);
     }
-    let files = SystemFiles { files: rt, notes };
-    restore_from(rt, threads, &files, read, master, outputs)
+    let files = &SystemFiles { files: rt, notes };
+    restore_early(rt, threads, files, read, (master, early), outputs)
+}
+
+/// Restores a volume from files of which the master record was read before the others.
+fn restore_early<N: NamedFiles>(
+    rt: &HostRuntime,
+    threads: &(impl Threads + Sync),
+    files: &N,
+    read: (&InputNames<'_>, &Notes, &Checks<'_>),
+    master: (&str, &Option<EarlyMaster>),
+    outputs: Outputs<'_>,
+) -> Ended
+    ensures { IsEnd result }
+{
+    let (name, master) = master;
+    let files = MasterFirst { files, master };
+    restore_from(rt, threads, &files, read, name, outputs)
 }
 
 /// Restores a volume from files that are read by their names. The notes know why one was not read.

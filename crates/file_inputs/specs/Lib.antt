@@ -1,5 +1,6 @@
 pub mod Causes
 pub mod CopyChain
+pub mod EarlyMaster
 pub mod Headers
 pub mod Manifests
 pub mod Paths

@@ -5,6 +5,7 @@
 mod beside;
 mod chain_reason;
 mod copy_chain;
+mod early_master;
 mod fault_lines;
 mod folder_copies;
 mod headers;
@@ -20,6 +21,7 @@ mod streams;
 
 pub use beside::{MANIFEST, manifest_for};
 pub use copy_chain::{chain_of, newest_chain};
+pub use early_master::{EarlyMaster, MasterFirst, checks_and_master};
 pub use fault_lines::{tell_input, tell_input_until, tell_until};
 pub use folder_copies::{header_of, ids_in};
 pub use input_names::{FIRST_ARCHIVE, InputNames, STANDARD_INPUT, what_stands};

@@ -1,7 +1,7 @@
 //! What manifests say of the files that a command reads. One stands beside them, as `manifest`, or
 //! is told.
 
-ghost use Rattle.std.specs.Prelude.{◌≡◌, ◌<◌, ◌↔◌, IfSome, IsSome, IsTrue, OnOk};
+ghost use Rattle.std.specs.Prelude.{◌≡◌, ◌<◌, ◌↔◌, All, IfSome, IsSome, IsTrue, OnOk};
 ghost use Rattle.checked_files.specs.declared.known.ManifestUse.TheVariants.{Aside};
 ghost use Rattle.file_inputs.specs.Manifests.{ArePlaced, ComparesNone, TakesUp, named_in};
 
@@ -112,6 +112,19 @@ impl<'a> Checks<'a> {
             count,
         };
         what.tell(rt);
+    }
+
+    /// Whether each of these files is compared with what a manifest says of it.
+    pub fn compares(&self, files: &[&str]) -> bool
+        ensures { IsTrue result → All (λ name. IsSome (named_in self.now.expected.items name.now))
+            files.now }
+    {
+        for name in files {
+            if self.named(name).is_none() {
+                return false;
+            }
+        }
+        true
     }
 
     /// How many bytes are named of the file of this name.
