@@ -396,12 +396,21 @@ def cut_behind_closing(folders):
         (folder / "log").write_bytes(log[:-count])
         line = f"log ends at {len(log) - count}: `closed` says that it ended at {len(log)}\n"
         folders.says(f"{count} bytes less than `closed` says", folders.run(*verify), 2, line + whole.stdout.decode())
+        line = f"imgcopy: {folder}/log: ends at {len(log) - count}: `closed` says that it ended at {len(log)}"
+        done = folders.run("list", "--no-manifest", folder)
+        folders.wants(f"a list of a log with {count} bytes less",
+                      (done.returncode, done.stderr.decode().splitlines()) == (2, [line]) and b"copy 1 full" in done.stdout, done)
     (folder / "log").write_bytes(log)
+    done = folders.run("list", "--no-manifest", folder)
+    folders.wants("a list of a closed database", done.returncode == 0 and not done.stderr, done)
+    listed = done.stdout.decode()
     name = f"imgcopy: {folder}/closed"
     for data in (b"", b"0\n", b"064\n", b"+64\n", b"64", b"64\n\n", b"six\n", b"\xff\n", b"18446744073709551616\n",
                  noted + b"\n" * 40):
         (folder / "closed").write_bytes(data)
         folders.says(f"a note {data[:20]!r}", folders.run(*verify), 0, whole.stdout.decode(),
+                     f"{name}: this is no note of a closing")
+        folders.says(f"a list beside a note {data[:20]!r}", folders.run("list", "--no-manifest", folder), 0, listed,
                      f"{name}: this is no note of a closing")
     (folder / "closed").write_bytes(b"18446744073709551615\n")
     line = f"log ends at {len(log)}: `closed` says that it ended at 18446744073709551615\n"
@@ -415,6 +424,8 @@ def cut_behind_closing(folders):
         make()
         folders.says("a note that is no file", folders.run(*verify), 2, whole.stdout.decode(), "E33 ReadFault",
                      f"{name}: this is no regular file")
+        folders.says("a list beside a note that is no file", folders.run("list", "--no-manifest", folder), 2, listed,
+                     "E33 ReadFault", f"{name}: this is no regular file")
         (folder / "closed").rmdir() if (folder / "closed").is_dir() else (folder / "closed").unlink()
     (folder / "closed").write_bytes(noted)
 

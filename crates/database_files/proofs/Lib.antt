@@ -4,7 +4,7 @@ pub mod Weighed
 mod Inventories
 mod KeptLines
 pub mod Masters
-mod Notes
+pub mod Notes
 mod Numbers
 pub mod Public
 pub mod PutAside

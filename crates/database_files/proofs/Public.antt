@@ -10,3 +10,4 @@ pub use Rattle.database_files.proofs.SecondNames.{by_test, copy_apart, copy_fini
 pub use Rattle.database_files.proofs.Standings.{keeps_finished, keeps_log, keeps_more, keeps_same, keeps_volume}
 pub use Rattle.database_files.proofs.SummedLog.{others_left, removed_unknown}
 pub use Rattle.database_files.proofs.Whole.{weighed_all}
+pub use Rattle.database_files.proofs.Notes.{is_few}

@@ -61,7 +61,7 @@ pub fn read_note<F: DatabaseFolder>(folder: &F) -> Result<Option<ClosedNote>, Op
 }
 
 /// The note that these bytes are, if they are one.
-fn note_in(bytes: &[u8]) -> Option<ClosedNote>
+pub fn note_in(bytes: &[u8]) -> Option<ClosedNote>
     ensures { IsReadOf SpellsNote bytes.now result }
 {
     let Ok(text) = std::str::from_utf8(bytes) else {

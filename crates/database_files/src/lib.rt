@@ -21,7 +21,7 @@ mod place;
 mod whole_file;
 
 pub use change_fault::ChangeFault;
-pub use closed_note::{ClosedNote, read_note, remove_note};
+pub use closed_note::{ClosedNote, note_in, read_note, remove_note};
 pub use copy_trouble::CopyTrouble;
 pub use database_folder::{DatabaseFolder, LogFault, RANDOM, Standing, VolumeFault};
 pub use diagnostics::Diagnostics;
@@ -35,6 +35,6 @@ pub use kept_manifest::{KeptManifest, note_file, without_lost};
 pub use log_file::{LogFile, bytes_of, found_in, is_headless, of_log};
 pub use manifest_file::put_text;
 pub use moved_aside::{FreeName, move_copy_aside, move_manifest_aside, move_master_aside};
-pub use names::{CLOSED, LEFT_OUT, LOG, MANIFEST, MASTER, VOLUME, is_unfinished_backup};
+pub use names::{CLOSED, LEFT_OUT, LOG, MANIFEST, MASTER, VOLUME, copy_of, is_unfinished_backup};
 pub use place::Place;
 pub use whole_file::{Bytes, read_whole};

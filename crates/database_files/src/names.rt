@@ -51,7 +51,7 @@ fn number_of(text: &str) -> Option<u32>
 }
 
 /// The copy whose whole file has this name.
-pub(crate) fn copy_of(name: &str) -> Option<CopyId>
+pub fn copy_of(name: &str) -> Option<CopyId>
     ensures { IsReadOf NamesCopy name.now result }
 {
     Some(CopyId(number_of(name.strip_prefix(COPY)?)?))

@@ -9,15 +9,16 @@ ghost use Rattle.file_commands.specs.Statuses.{IsEnd};
 
 use crate::answers::told;
 use crate::audit::unsound_in;
+use crate::folder_copies::{header_of, ids_in};
 use crate::restore::{Ended, Outputs, restore_known};
 use checked_files::ManifestUse;
 use command_words::RESTORE_USAGE;
 use copy_vault::CopyId;
 use file_inputs::{
-    InputNames, chain_of, checks_and_master, header_of, ids_in, is_irregular, newest_chain,
-    tell_irregular,
+    InputNames, chain_of, checks_and_master, is_irregular, newest_chain, tell_irregular,
 };
 use file_view::{CopyHeader, ViewFault};
+use folder_reports::{Reach, SystemReader, Trouble, TroubleLine, noted_reach};
 use media_restore::RestoreFault;
 use page_core::Lsn;
 use script_run::{FAULT_STATUS, restore_status};
@@ -93,6 +94,9 @@ fn restored(
     if has_irregular(rt, folder)? {
         return Ok(ExitCode::from(FAULT_STATUS));
     }
+    if let Some(status) = short_log(rt, wanted) {
+        return Ok(status);
+    }
     let mut headers = headers_in(rt, folder, ids.as_slice(), copy)?;
     let mut first = None;
     for _ in 0..=ids.len() {
@@ -124,6 +128,29 @@ fn restored(
         Some(status) => status,
         None => told_no_chain(rt, folder, copy, ids.is_empty()),
     })
+}
+
+/// Tells that the log of a folder ends below where the note of its closing says that it ended, and
+/// answers the program's status. A log that counts up to a record may end behind that.
+fn short_log(rt: &HostRuntime, wanted: &FolderRestore<'_>) -> Option<ExitCode>
+    ensures { IfSome result (λ status. exit_status status ≤ 2) }
+{
+    let (folder, manifest) = (wanted.folder, wanted.manifest);
+    if wanted.until.is_some() {
+        return None;
+    }
+    let Ok(Reach::Short { bytes, noted }) = noted_reach(rt.alloc(), &SystemReader { rt, folder })
+    else {
+        return None;
+    };
+    let trouble = &Trouble::Ends { bytes, noted };
+    let status = told(rt, &RestoreFault::BadChain(Lsn(bytes)));
+    let _ = rt.eprintln(&TroubleLine {
+        folder,
+        manifest,
+        trouble,
+    });
+    Some(status)
 }
 
 /// Whether the log or the master record of a folder is no regular file, which is told.

@@ -1,2 +1,1 @@
-mod ClosingNotes
 mod Statuses

@@ -1,3 +1,2 @@
-pub mod Closing
 pub mod Ends
 pub mod Strict

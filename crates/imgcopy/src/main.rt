@@ -12,14 +12,10 @@ ghost use Rattle.script_run.specs.Run.{RunLeaves};
 ghost use Rattle.script_run.specs.Status.{status_of_finish};
 ghost use Rattle.imgcopy.specs.Ends.{IsPlayed, status_of_opened};
 
-mod closing;
 mod folder_commands;
-mod list;
-mod listed_sums;
 mod program_fault;
 mod script_lines;
 mod strict;
-mod verify;
 
 use aries_core::Setup;
 use checked_files::ManifestUse;
@@ -27,14 +23,13 @@ use command_words::{Command, command_of, words_of};
 use database_backup::BackupCall;
 use event_script::MAX_SCRIPT_BYTES;
 use file_commands::{
-    FolderRestore, Outputs, answered, audit_named, redo_log, restore_folder, restore_named,
-    show_named, told,
+    FolderRestore, Outputs, answered, audit_named, list_named, redo_log, restore_folder,
+    restore_named, show_named, told, verify_named,
 };
 use file_inputs::{InputNames, noted, patient, tell_unwritten};
 use file_outputs::{Saving, VolumeOutput};
 use file_view::{Form, Wanted};
 use folder_commands::{backup, renew};
-use list::list;
 use open_database::{OpenCall, OpenEnd, open_folder};
 use page_core::{Lsn, PageNo, TxnNo};
 use program_fault::ProgramFault;
@@ -51,7 +46,6 @@ use std::thread::Threads;
 use std::{fmt, io};
 use strict::{Kept, Refusals, Tallied, line_of_call};
 use system_files::{EscapedText, Notes};
-use verify::verify;
 
 /// How many bytes of a script are kept at most, to show a bad line.
 const MOST_KEPT: usize = 65_536;
@@ -220,7 +214,7 @@ fn main(rt: HostRuntime) -> ExitCode {
                 no_manifest,
             },
         ) => match ManifestUse::of(manifest, no_manifest) {
-            Some(manifest) => list(&rt, folder, form_of(json), manifest),
+            Some(manifest) => list_named(&rt, folder, form_of(json), manifest),
             None => told(&rt, &ProgramFault::TwoManifests),
         },
         Ok(
@@ -246,7 +240,7 @@ fn main(rt: HostRuntime) -> ExitCode {
                 no_manifest,
             },
         ) => match ManifestUse::of(manifest, no_manifest) {
-            Some(manifest) => verify(&rt, &rt, folder, manifest),
+            Some(manifest) => verify_named(&rt, &rt, folder, manifest),
             None => told(&rt, &ProgramFault::TwoManifests),
         },
         Ok(Command::Renew { old, new }) => renew(&rt, old, new, Wary),

@@ -1,0 +1,4 @@
+mod Files
+mod Ids
+mod Sounds
+mod Sums
