@@ -1,0 +1,3 @@
+pub mod Archives
+pub mod Calls
+pub mod Outcome
