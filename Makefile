@@ -1,4 +1,6 @@
-# make imgcopy    proves what the program stands on, and the program, builds it, and leaves it at build/imgcopy
+# make imgcopy    proves what the program stands on, the program and the library for C, builds them, and leaves them at
+#                 build/imgcopy, build/libimgcopy.a and build/libimgcopy.so.0
+# make library    proves and builds that library alone
 # make quick      a first look: runs the tests from the sources, unproved, side by side, and plays the demo's day, in less
 #                 than ten minutes where nothing is built; nothing is proved, and no wrong body is tried
 # make demo       plays a day of a small database with image copies, loses its volume and restores it, and shows its
@@ -26,7 +28,7 @@
 # make examples   makes the example logs and their expected answers again
 # make contracts  writes the contract of each public item to build/contracts/, from the sources; its README.md is the index
 # make install    puts the program, its manual page, the completions of bash, zsh and fish, the guide and the formats below
-#                 PREFIX, by default /usr/local
+#                 PREFIX, by default /usr/local, and the library for C with its header, if it is built
 # make clean      removes build/, and keeps the proofs that rt keeps for itself
 #
 # IMGCOPY=PROGRAM has demo, check, bench and install take that program, and builds none.
@@ -52,11 +54,14 @@ endif
 need = @command -v "$(1)" > /dev/null || { echo "make: the program '$(1)' is missing: $(2)" >&2; exit 1; }
 
 .DEFAULT_GOAL := imgcopy
-.PHONY: imgcopy quick demo bank test check crate simulate plants bench examples contracts bench-programs install clean
+.PHONY: imgcopy library quick demo bank test check crate simulate plants bench examples contracts bench-programs install clean
 .PHONY: need-rt need-python3 need-cargo need-rustc need-imgcopy
 
 imgcopy: need-rt
-	@tools/build.sh imgcopy
+	@tools/build.sh imgcopy imgcopy_c
+
+library: need-rt
+	@tools/build.sh imgcopy_c
 
 quick: need-rt
 	@tools/quick.sh
@@ -125,6 +130,7 @@ install: $(PROGRAM)
 	@install -m 644 completions/_imgcopy "$(DESTDIR)$(PREFIX)/share/zsh/site-functions/_imgcopy"
 	@install -m 644 completions/imgcopy.fish "$(DESTDIR)$(PREFIX)/share/fish/vendor_completions.d/imgcopy.fish"
 	@install -m 644 docs/GUIDE.md docs/FORMATS.md "$(DESTDIR)$(PREFIX)/share/doc/imgcopy"
+	@tools/install_library.sh "$(DESTDIR)" "$(PREFIX)"
 
 clean:
 	@rm -rf build

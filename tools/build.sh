@@ -1,10 +1,11 @@
 #!/usr/bin/env bash
-# usage: build.sh [PROGRAM..]
-# Proves each program, imgcopy if none is named, and the crates that it stands on, as crates.txt has them, and puts it into
-# build/. No other crate is proved, and no wrong body is tried: `rt ci` does it in a root of its own, outside of this
-# checkout. A crate that nothing runs beside gets all processors, and what rt keeps there spares the gate that work. What
-# rt says goes to build/prove.log, whose end is shown where rt fails. The sum of the sources that were proved is kept in
-# build/PROGRAM.proved: while they and the kit stay as they are, nothing of the program is proved or built again.
+# usage: build.sh [NAME..]
+# Proves each program or static library of these names, imgcopy if none is named, and the crates that they stand on, as
+# crates.txt has them, and puts it into build/. No other crate is proved, and no wrong body is tried: `rt ci` does it in a
+# root of its own, outside of this checkout. A crate that nothing runs beside gets all processors, and what rt keeps there
+# spares the gate that work. What rt says goes to build/prove.log, whose end is shown where rt fails. The sum of the
+# sources that were proved is kept in build/NAME.proved: while they and the kit stay as they are, nothing is proved or
+# built again. The library imgcopy_c is put there by tools/library.sh, which says under which names.
 set -u
 cd "$(dirname "$0")/.." || exit 1
 top=$PWD log=build/prove.log root=
@@ -17,12 +18,12 @@ fail() {
     exit 1
 }
 
-# The lines of crates.txt of a crate and of all that it stands on.
+# The lines of crates.txt of these crates and of all that they stand on.
 lines_of() {
-    sed 's/ *#.*//' crates.txt | awk -F ' *: *' -v wanted="$1" '
-        NF { line[$1] = $0; uses[$1] = $2 }
+    sed 's/ *#.*//' crates.txt | awk -F ' *: *' -v wanted="$*" '
+        NF { name = $1; sub(/ .*/, "", name); line[name] = $0; uses[name] = $2 }
         END {
-            list[count = 1] = wanted
+            count = split(wanted, list, " ")
             for (i = 1; i <= count; i++) {
                 if (!(list[i] in line) || list[i] in seen) continue
                 seen[list[i]]
@@ -45,27 +46,42 @@ sum_of_sources() {
     } | sha256sum
 }
 
-# A root with the program and the crates that it stands on, without what a check left there and their wrong bodies.
+# A root with these crates and those that they stand on, without what a check left there and their wrong bodies.
 make_root() {
     local name
     root=$(mktemp -d) || return
-    lines_of "$1" > "$root/crates.txt"
+    lines_of "$@" > "$root/crates.txt"
     cp HANDLES "$root"
     while read -r name; do
         mkdir -p "$root/crates/$name"
         tar -C "crates/$name" --exclude=./out --exclude=./must-fail -cf - . | tar -C "$root/crates/$name" -xf - || return
-    done < <(names_of "$1")
+    done < <(names_of "$@")
 }
 
 names_of() {
-    lines_of "$1" | sed 's/ *:.*//'
+    lines_of "$@" | sed 's/[ :].*//'
+}
+
+is_library() {
+    grep -q "^$1 *staticlib" crates.txt
+}
+
+# Whether it stands in build/, made of the sources as they are.
+is_current() {
+    [ -e "build/$1.proved" ] && [ "$(sum_of_sources "$1")" = "$(cat "build/$1.proved")" ] || return
+    if is_library "$1"; then [ -e "build/lib${1%_c}.a" ]; else [ -x "build/$1" ]; fi
+}
+
+# Puts it into build/.
+take() {
+    if is_library "$1"; then tools/library.sh "$root" "$1"; else cp -f "$root/crates/$1/out/$1" "build/$1"; fi
 }
 
 # rt leaves each program that it has proved in out/. It says "rt: NAME proved" once a crate is done, or that it is kept.
 # A place in a source is told as it is here.
 prove() {
     local count
-    count=$(lines_of "$1" | wc -l)
+    count=$(lines_of "$@" | wc -l)
     (cd "$root" && PYTHONUNBUFFERED=1 "$top/tools/longest.py" rt ci 2>&1) | sed -u "s|$root/||g" | tee -a "$log" | show_progress "$count"
     return "${PIPESTATUS[0]}"
 }
@@ -84,16 +100,22 @@ show_progress() {
 
 mkdir -p build
 [ $# -gt 0 ] || set -- imgcopy
-for program in "$@"; do
-    [ -n "$(lines_of "$program")" ] || { echo "build.sh: crates.txt has no crate $program" >&2; exit 1; }
-    sum=$(sum_of_sources "$program")
-    [ ! -x "build/$program" ] || [ "$sum" != "$(cat "build/$program.proved" 2> /dev/null)" ] || continue
-    : > "$log"
-    rm -f "build/$program.proved"
-    make_root "$program" || fail "there is no room for a copy of the crates"
-    prove "$program" || fail "$program, or a crate that it stands on, is not proved"
-    cp -f "$root/crates/$program/out/$program" "build/$program" || exit 1
-    rm -rf "$root"
-    echo "$sum" > "build/$program.proved"
-    echo "built build/$program"
+stale=() sums=()
+for name in "$@"; do
+    [ -n "$(lines_of "$name")" ] || { echo "build.sh: crates.txt has no crate $name" >&2; exit 1; }
+    is_current "$name" || stale+=("$name")
+done
+[ ${#stale[@]} -gt 0 ] || exit 0
+: > "$log"
+for name in "${stale[@]}"; do
+    rm -f "build/$name.proved"
+    sums+=("$(sum_of_sources "$name")")
+done
+make_root "${stale[@]}" || fail "there is no room for a copy of the crates"
+prove "${stale[@]}" || fail "${stale[*]}, or a crate that they stand on, is not proved"
+for at in "${!stale[@]}"; do
+    name=${stale[at]}
+    take "$name" || fail "$name is proved, and not built"
+    echo "${sums[at]}" > "build/$name.proved"
+    echo "built $name into build/"
 done

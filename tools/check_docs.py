@@ -31,9 +31,9 @@ sys.path.append(str(ROOT))
 
 from checks import rows  # noqa: E402  # it stands at the top of the repository
 
-SUFFIXES = (".rt", ".antt", ".md", ".py", ".rs", ".sh", ".edit", ".log", ".volume", ".fault", ".svg", ".txt")
+SUFFIXES = (".rt", ".antt", ".md", ".py", ".rs", ".sh", ".c", ".h", ".edit", ".log", ".volume", ".fault", ".svg", ".txt")
 # The files whose words count, and what counts for nothing in them.
-COMMENTS = {".rt": r"//[^\n]*", ".rs": r"//[^\n]*", ".antt": r"--[^\n]*"}
+COMMENTS = {".rt": r"//[^\n]*", ".rs": r"//[^\n]*", ".antt": r"--[^\n]*", ".h": r"(?s:/\*.*?\*/)", ".c": r"(?s:/\*.*?\*/)"}
 SCRIPTS = (".py", ".sh", ".txt", "Makefile")
 RT_COMMANDS = "ci must-fail doc version help new check verdict lib run test try fmt tidy plant all expand lemma"
 
@@ -76,7 +76,7 @@ class Sources:
 
 def all_files():
     yield from (path for path in ROOT.iterdir() if path.is_file())
-    for folder in ("crates", "docs", "examples", "model", "checks", "bench", "tools"):
+    for folder in ("crates", "docs", "examples", "model", "checks", "bench", "tools", "include", "bindings"):
         for path in (ROOT / folder).rglob("*"):
             if path.is_file() and not {"out", "__pycache__"} & set(path.parts):
                 yield path
@@ -210,7 +210,7 @@ def lacking_carriers():
 def other_layers():
     """Where crates/README.md draws other layers or crates than crates.txt, or this has one above what it stands on."""
     lines = (ROOT / "crates.txt").read_text(encoding="utf-8").partition("\n\n")[2].splitlines()
-    listed = [line.removeprefix("# ").partition(":")[0] for line in lines if line]
+    listed = [line.removeprefix("# ").partition(":")[0].removesuffix(" staticlib") for line in lines if line]
     picture = FENCE.search((ROOT / "crates" / "README.md").read_text(encoding="utf-8"))[0].partition("\n")[2]
     drawn = [layer or crate for layer, crate in DRAWN.findall(picture.rpartition("\n")[0])]
     for here, there in zip(drawn + [None] * len(listed), listed + [None] * len(drawn)):

@@ -56,7 +56,7 @@ behind the places that they change.
 # Comments, texts and characters: no item begins in them.
 HIDDEN = re.compile(r'//[^\n]*|"(?:\\.|[^"\\])*"|\'(?:\\.|[^\\\'\n])\'', re.DOTALL)
 TEST_MODULE = re.compile(r"^#\[cfg\(test\)\]\n(?:pub )?mod \w+(?:;| \{.*?^\})", re.DOTALL | re.MULTILINE)
-ITEM = re.compile(r"^(    |)(pub |)(?:pub\(.*?\) |const (?=fn)|unsafe )*"
+ITEM = re.compile(r"^(    |)(pub |)(?:pub\(.*?\) |const (?=fn)|unsafe |extern ... (?=fn))*"
                   r"(fn|struct|enum|trait|const|static|type|impl|ghost(?! use))\b(.*)", re.MULTILINE)
 MODULE = re.compile(r"^(pub |)mod (\w+);", re.MULTILINE)
 EXPORT = re.compile(r"^pub use (.*?);", re.DOTALL | re.MULTILINE)

@@ -8,7 +8,7 @@ set -u
 cd "$(dirname "$0")/.." || exit 1
 crate=${1-} passed=0 failed=0 counts='^([0-9]+) passed, ([0-9]+) failed'
 
-if [ $# -ne 1 ] || ! grep -q "^$crate *:" crates.txt; then
+if [ $# -ne 1 ] || ! grep -q "^$crate *\(staticlib\)\? *:" crates.txt; then
     echo "usage: crate.sh CRATE, which crates.txt names" >&2
     exit 1
 fi

@@ -148,6 +148,12 @@ bank_rot() {
     python3 -m checks.bank_rot "$bank" "$program"
 }
 
+# The gate has proved the library, and left no archive of it.
+c_calls() {
+    if "$is_gate"; then tools/library.sh "$PWD" imgcopy_c; else tools/build.sh imgcopy_c; fi || return
+    python3 -m checks.c_calls "$program" build
+}
+
 # The store is proved and built in a root of its own.
 kv() {
     preload file_calls checks.kv "$program"
@@ -197,6 +203,7 @@ run_own_checks() {
     TMPDIR=$(memory_place)
     check contracts python3 -- python3 tools/contracts.py --check
     check documents python3 -- python3 tools/check_docs.py
+    check header python3 -- python3 tools/header.py --check
     check laws python3 -- python3 tools/check_laws.py
     check wrong_bodies python3 -- python3 tools/plants.py --look
     check examples "$program" python3 -- checks/check.sh "$program"
@@ -245,6 +252,7 @@ run_other_checks() {
         check bank_memory "$program" rt python3 rustc -- bank_memory
         check bank_threads "$program" rt python3 rustc -- bank_threads
         check bank_rot "$program" rt python3 -- bank_rot
+        check c_calls "$program" rt python3 -- c_calls
         if are_proofs_kept; then
             check kv "$program" rt python3 rustc -- kv
         else
@@ -257,7 +265,7 @@ run_other_checks() {
         fi
     else
         for name in library_memory few_threads repairs fault_sweeps power bank bank_kills bank_losses bank_faults bank_memory \
-            bank_threads bank_rot kv bank_disks; do
+            bank_threads bank_rot c_calls kv bank_disks; do
             skip "$name" "it has rt prove another program"
         done
     fi
