@@ -1,8 +1,8 @@
 /* Calls the library for C.
  *
- * usage: c_calls LOG VOLUME ARCHIVE..    prints what each call answers, a line each, and writes the volume
- *        c_calls --draw COUNT SEED LOG.. changes bytes of these logs so many times, and of each one tries whether what the
- *                                        calls answer of it agrees
+ * usage: c_calls LOG VOLUME ARCHIVE..     prints what each call answers, a line each, and writes the volume
+ *        c_calls --draw COUNT SEED LOG.. changes bytes of these logs so many times, and of each one tries whether what
+ *                                        the calls answer of it agrees
  */
 #include "imgcopy.h"
 

