@@ -1,5 +1,5 @@
 /* The calls of imgcopy for C, and for any language that calls C: they check a log, redo it, find
- * where a crash has left it, and audit image copies against it.
+ * where a crash has left it, recover a database from it, and audit image copies against it.
  *
  * A caller passes bytes that it has in memory: the bytes of a file, as `imgcopy run --save` or
  * `imgcopy open` wrote it. No call opens a file, prints, starts a thread, takes a lock, ends the
@@ -36,6 +36,7 @@ extern "C" {
 enum {
     IMGCOPY_OK = 0,
     IMGCOPY_OUT_OF_MEMORY = 1,
+    IMGCOPY_LOG_FULL = 8,
     IMGCOPY_BAD_HEADER = 30,
     IMGCOPY_BAD_RECORD = 31,
     IMGCOPY_TORN = 32,
@@ -108,6 +109,26 @@ imgcopy_outcome imgcopy_redo(
  *
  * Codes: 30 if no log begins so; 1 if memory is refused. */
 imgcopy_outcome imgcopy_log_prefix(const uint8_t *log, size_t log_length);
+
+/* Recovers a database from its whole log, as a restart after a crash does: redoes the log over
+ * formatted pages, and undoes the transactions that are open at its end. First cut the log where
+ * `imgcopy_log_prefix` says.
+ *
+ * Puts the volume at the front of `volume`, as `imgcopy_redo` does, and at the front of `tail` the
+ * records that undo appends to the log, 64 bytes each. Behind the log of the second format,
+ * AIMGLOG2, these make a log in which no transaction is open, and each slot of the volume has what
+ * was committed. So store the tail behind the log before you go on with the volume.
+ *
+ * With code 0 `first` is how many bytes of the volume were put there, and `second` how many of the
+ * tail. Those behind them are as they were.
+ *
+ * Codes: `IMGCOPY_TOO_SHORT` if one of the two is too short; then the volume needs `first` bytes,
+ * and the tail `second`. 8 if the log has no room for the records of undo: no engine leaves such a
+ * log. Else those of `imgcopy_check_log`. With any code but 0 both are as they were. The call keeps
+ * the log's records in memory, some 80 bytes each. */
+imgcopy_outcome imgcopy_recover(
+    const uint8_t *log, size_t log_length, uint8_t *volume, size_t volume_length, uint8_t
+    *tail, size_t tail_length);
 
 /* Audits a chain of image copies against a log, as `imgcopy audit` does. With code 0 a restore of
  * the chain, and of the chain up to each of its copies, gives what the log says, whoever wrote the

@@ -5,7 +5,7 @@ usage: header.py            writes it
        header.py --check    fails if include/imgcopy.h is not what the sources say
 
 The functions, and what the header says in front, are those of crates/imgcopy_c/src/lib.rt; the outcome and its codes
-those of crates/embed_calls/src/outcome.rt; the names of the faults those of crates/page_core/src/fault_name.rt. A
+those of crates/embed_calls/src; the names of the faults those of crates/page_core/src/fault_name.rt. A
 parameter of a type that is not in the table below is refused.
 """
 
@@ -35,7 +35,7 @@ EXPORT = re.compile(r"((?:^///.*\n)+)#\[unsafe\(no_mangle\)\]\npub extern \"C\" 
 CONSTANT = re.compile(r"((?:^///.*\n)+)pub const (\w+): u32 = (\d+);", re.M)
 FIELD = re.compile(r"((?:^    ///.*\n)+)    pub (\w+): (\w+),", re.M)
 FAULT = re.compile(r"\"E(\d+) (\w+)\"")
-CODE = re.compile(r"numbered\((\d+),|code: (\d+),")
+CODE = re.compile(r"numbered(?:_twice)?\((\d+),")
 
 
 def text_of(doc):
@@ -60,7 +60,8 @@ def codes():
     """The codes: 0, the faults that a call may answer, and those that are of the calls alone."""
     source = OUTCOME.read_text(encoding="utf-8")
     names = {int(number): name for number, name in FAULT.findall(NAMES.read_text(encoding="utf-8"))}
-    used = sorted({int(a or b) for a, b in CODE.findall(source)} - {0})
+    calls = "".join(path.read_text(encoding="utf-8") for path in OUTCOME.parent.glob("*.rt"))
+    used = sorted({int(number) for number in CODE.findall(calls)})
     lines = ["    IMGCOPY_OK = 0,"] + [f"    IMGCOPY_{upper(names[number])} = {number}," for number in used]
     for doc, name, number in CONSTANT.findall(source):
         if name != "ABI":

@@ -1,2 +1,5 @@
 mod Refused
 mod Redone
+mod Undoing
+mod Recovering
+mod GoesOn

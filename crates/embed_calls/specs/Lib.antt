@@ -1,3 +1,4 @@
 pub mod Archives
 pub mod Calls
 pub mod Outcome
+pub mod Recovered

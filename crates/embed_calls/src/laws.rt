@@ -1,9 +1,13 @@
 //! Laws of the calls, for readers of their contracts.
 
-ghost use Rattle.std.specs.Prelude.{ℕ, ◌≡◌, ◌⊎◌, List};
+ghost use Rattle.std.specs.Prelude.{ℕ, ◌≡◌, ◌++◌, ◌⊎◌, [], List, take};
+ghost use Rattle.page_core.specs.declared.format.Format.TheVariants.{Second};
 ghost use Rattle.log_records.specs.Log.{Log};
+ghost use Rattle.log_rules.specs.Transactions.{open_in};
+ghost use Rattle.loser_undo.specs.Undo.{after_undo};
 ghost use Rattle.embed_calls.specs.declared.outcome.Outcome.{Outcome};
 ghost use Rattle.embed_calls.specs.Calls.{IsLogOf, IsNoLog};
+ghost use Rattle.embed_calls.specs.Recovered.{IsRecovered};
 
 use crate::outcome::{ABI, LENGTHS_DIFFER, TOO_SHORT};
 
@@ -18,4 +22,16 @@ pub fn calls_have_these_numbers()
 pub fn right_logs_are_refused_for_memory_alone()
     ensures { (bytes : List ℕ) (log : Log) (it : Outcome) → IsLogOf bytes log → IsNoLog bytes it
         → (it.code ≡ 1) ⊎ (it.code ≡ 33) }
+{}
+
+/// The bytes of a log of the second format, with those of the tail behind them, are again a log: the
+/// one after undo, in which no transaction is open. So a database goes on from there.
+pub fn a_recovered_log_goes_on()
+    ensures log { (bytes volume made tail undo : List ℕ) (it : Outcome)
+        → (found : IsRecovered bytes volume made tail undo it)
+        → found.of_log.spells.format ≡ Second → IsLogOf (bytes ++ take it.second undo)
+        (record found.log { records = after_undo found.log.records }) }
+    ensures closed { (bytes volume made tail undo : List ℕ) (it : Outcome)
+        → (found : IsRecovered bytes volume made tail undo it)
+        → open_in (after_undo found.log.records) ≡ [] }
 {}

@@ -1,7 +1,7 @@
 //! What a call answers: a number that says how it went, and three numbers.
 
 ghost use Rattle.std.specs.Prelude.{◌≡◌};
-ghost use Rattle.embed_calls.specs.Outcome.{answers, numbered, of_audit, of_front, of_log};
+ghost use Rattle.embed_calls.specs.Outcome.{answers, numbered, numbered_twice, of_audit, of_front, of_log};
 
 use copy_audit::Unsound;
 use log_prefix::FrontFault;
@@ -49,10 +49,17 @@ impl Outcome {
     pub(crate) fn numbered(code: u32, first: u64) -> Outcome
         ensures { result ≡ numbered code first }
     {
+        Outcome::numbered_twice(code, first, 0)
+    }
+
+    /// The fault of this number, with two numbers of its own.
+    pub(crate) fn numbered_twice(code: u32, first: u64, second: u64) -> Outcome
+        ensures { result ≡ numbered_twice code first second }
+    {
         Outcome {
             code,
             first,
-            second: 0,
+            second,
             third: 0,
         }
     }
@@ -103,12 +110,9 @@ impl From<Unsound> for Outcome {
             Unsound::CountDiffers => Outcome::numbered(38, 0),
             Unsound::RedoBeyondLog => Outcome::numbered(39, 0),
             Unsound::PageBeyondLog(page) => Outcome::numbered(40, page.0 as u64),
-            Unsound::Unsound(copy, page) => Outcome {
-                code: 41,
-                first: copy.0 as u64,
-                second: page.0 as u64,
-                third: 0,
-            },
+            Unsound::Unsound(copy, page) => {
+                Outcome::numbered_twice(41, copy.0 as u64, page.0 as u64)
+            }
         }
     }
 }

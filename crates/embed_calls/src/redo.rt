@@ -53,7 +53,7 @@ fn put_volume(pages: &[Page], room: &mut [u8]) -> Outcome
 }
 
 /// Puts the bytes of the pages into a room that is as long as they are.
-fn put_pages(pages: &[Page], room: &mut [u8])
+pub(crate) fn put_pages(pages: &[Page], room: &mut [u8])
     requires { length room.old ≡ PAGE_BYTES * length pages.now }
     ensures { room.new ≡ volume_bytes pages.now }
 {

@@ -1,5 +1,5 @@
 //! The calls of imgcopy for C, and for any language that calls C: they check a log, redo it, find
-//! where a crash has left it, and audit image copies against it.
+//! where a crash has left it, recover a database from it, and audit image copies against it.
 //!
 //! A caller passes bytes that it has in memory: the bytes of a file, as `imgcopy run --save` or
 //! `imgcopy open` wrote it. No call opens a file, prints, starts a thread, takes a lock, ends the
@@ -22,6 +22,7 @@ ghost use Rattle.embed_calls.specs.Archives.{inputs_of};
 ghost use Rattle.embed_calls.specs.Calls.{AreNotSound, HasNoPrefix, IsChecked, IsNoLog, IsPrefix};
 ghost use Rattle.embed_calls.specs.Calls.{IsRedone, IsTooShort};
 ghost use Rattle.embed_calls.specs.Outcome.{numbered};
+ghost use Rattle.embed_calls.specs.Recovered.{IsNotRecovered, IsRecovered, NeedsRoom};
 
 use embed_calls::{ABI, LENGTHS_DIFFER, Outcome, TOO_SHORT};
 use std::alloc::Global;
@@ -82,6 +83,40 @@ pub extern "C" fn imgcopy_log_prefix(alloc: Global, log: &[u8]) -> Outcome
     ensures none { result.code ≢ 0 → HasNoPrefix log.now result }
 {
     embed_calls::log_prefix(alloc, log)
+}
+
+/// Recovers a database from its whole log, as a restart after a crash does: redoes the log over
+/// formatted pages, and undoes the transactions that are open at its end. First cut the log where
+/// `imgcopy_log_prefix` says.
+///
+/// Puts the volume at the front of `volume`, as `imgcopy_redo` does, and at the front of `tail` the
+/// records that undo appends to the log, 64 bytes each. Behind the log of the second format, AIMGLOG2,
+/// these make a log in which no transaction is open, and each slot of the volume has what was
+/// committed. So store the tail behind the log before you go on with the volume.
+///
+/// With code 0 `first` is how many bytes of the volume were put there, and `second` how many of the
+/// tail. Those behind them are as they were.
+///
+/// Codes: `IMGCOPY_TOO_SHORT` if one of the two is too short; then the volume needs `first` bytes,
+/// and the tail `second`. 8 if the log has no room for the records of undo: no engine leaves such a
+/// log. Else those of `imgcopy_check_log`. With any code but 0 both are as they were. The call keeps
+/// the log's records in memory, some 80 bytes each.
+#[unsafe(no_mangle)]
+pub extern "C" fn imgcopy_recover(
+    alloc: Global,
+    log: &[u8],
+    volume: &mut [u8],
+    tail: &mut [u8],
+) -> Outcome
+    ensures recovered { result.code ≡ 0
+        → IsRecovered log.now volume.old volume.new tail.old tail.new result }
+    ensures short { result.code ≡ TOO_SHORT
+        → NeedsRoom log.now (length volume.old) (length tail.old) result }
+    ensures refused { result.code ≢ 0 → result.code ≢ TOO_SHORT → IsNotRecovered log.now result }
+    ensures volume_kept { result.code ≢ 0 → volume.new ≡ volume.old }
+    ensures tail_kept { result.code ≢ 0 → tail.new ≡ tail.old }
+{
+    embed_calls::recover_log(alloc, log, volume, tail)
 }
 
 /// Audits a chain of image copies against a log, as `imgcopy audit` does. With code 0 a restore of
