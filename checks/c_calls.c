@@ -83,6 +83,22 @@ static void hold(int holds, const char *what) {
     if (!holds) fail("the calls do not agree", what);
 }
 
+/* A log with its tail has nothing to undo, and redo of it makes the same volume. A log of the first format stays one. */
+static void try_recovery(const uint8_t *log, size_t length) {
+    imgcopy_outcome needs = imgcopy_recover(log, length, NULL, 0, NULL, 0);
+    hold(needs.code == IMGCOPY_TOO_SHORT && needs.first > 0 && needs.second % 64 == 0, "a recovery needs room");
+    size_t of_volume = (size_t)needs.first, of_tail = (size_t)needs.second;
+    uint8_t *volume = block(of_volume), *again = block(of_volume), *whole = block(length + of_tail);
+    memcpy(whole, log, length);
+    imgcopy_outcome found = imgcopy_recover(log, length, volume, of_volume, whole + length, of_tail);
+    hold(found.code == 0 && found.first == of_volume && found.second == of_tail, "and puts as much there");
+    imgcopy_outcome redo = imgcopy_redo(whole, length + of_tail, again, of_volume);
+    hold(redo.code == 0 && memcmp(volume, again, of_volume) == 0, "the log with its tail makes the volume");
+    found = imgcopy_recover(whole, length + of_tail, again, of_volume, NULL, 0);
+    hold(found.code == 0 && found.second == 0 && memcmp(volume, again, of_volume) == 0, "and has nothing to undo");
+    free(volume), free(again), free(whole);
+}
+
 static void try_log(const uint8_t *log, size_t length, uint8_t *room, size_t room_length) {
     imgcopy_outcome check = imgcopy_check_log(log, length), prefix = imgcopy_log_prefix(log, length);
     memset(room, MARK, room_length);
@@ -97,12 +113,14 @@ static void try_log(const uint8_t *log, size_t length, uint8_t *room, size_t roo
         hold(check.third == length && check.second == length / 64 - 1, "the counts are those of the length");
         hold(redo.first == needed && redo.code == (needed <= room_length ? 0 : IMGCOPY_TOO_SHORT), "512 bytes a page");
         hold(prefix.first == length && prefix.second == 0 && prefix.third == 0, "a whole log is its front");
+        try_recovery(log, length);
         return;
     }
     hold(redo.code == check.code && redo.first == check.first, "redo finds what the check finds");
     if (check.code == IMGCOPY_BAD_HEADER) return;
     hold(prefix.second == check.code && (prefix.first == check.first || check.first == 0), "so does the front");
     hold(imgcopy_check_log(log, (size_t)prefix.first).code == 0, "the front is a log");
+    try_recovery(log, (size_t)prefix.first);
     hold(prefix.third == 0 || prefix.third >= prefix.first, "what was forced is behind the front");
 }
 

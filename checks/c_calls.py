@@ -25,7 +25,7 @@ from pathlib import Path
 
 from checks import faults
 from checks.answers import run_script
-from model.recovery import audit_files
+from model.recovery import audit_files, encode_pages, read_log, redo_all, undo_records
 from model.random_scripts import random_script
 from model.samples import Draw
 from model.spoiled_files import Given, spoil
@@ -227,6 +227,16 @@ def check_log(name, log):
         same(f"Python, the front of {name}", said, line)
         return
     same(f"Python, the front of {name}", (prefix.end, str(prefix.fault or "")), (len(faults.reader.right), line))
+    check_recovery(name, log[:prefix.end])
+
+
+def check_recovery(name, log):
+    """A log that was cut where its front ends, recovered as the model does."""
+    imgcopy, (pages, records) = library(), read_log(log)
+    undone = undo_records(records)
+    found, said = line_of(imgcopy.recover, log)
+    wanted = (encode_pages(redo_all(records + undone, pages)), b"".join(record.encode() for record in undone))
+    same(f"Python, a recovery of {name}", (found, said), (wanted, ""))
 
 
 def check_seed(seed):
@@ -262,7 +272,7 @@ def main(arguments):
     try:
         if len(arguments) != 2:
             raise Failure("two arguments are wanted, the program and the folder of the library")
-        program, folder = os.path.abspath(arguments[0]), Path(arguments[1])
+        program, folder = os.path.abspath(arguments[0]), Path(arguments[1]).resolve()
         cc, callers, left_out = compiler("CC", "cc"), [], []
         with tempfile.TemporaryDirectory() as name:
             place, day = Path(name), Path(name) / "day"

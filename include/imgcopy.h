@@ -127,8 +127,8 @@ imgcopy_outcome imgcopy_log_prefix(const uint8_t *log, size_t log_length);
  * log. Else those of `imgcopy_check_log`. With any code but 0 both are as they were. The call keeps
  * the log's records in memory, some 80 bytes each. */
 imgcopy_outcome imgcopy_recover(
-    const uint8_t *log, size_t log_length, uint8_t *volume, size_t volume_length, uint8_t
-    *tail, size_t tail_length);
+    const uint8_t *log, size_t log_length, uint8_t *volume, size_t volume_length,
+    uint8_t *tail, size_t tail_length);
 
 /* Audits a chain of image copies against a log, as `imgcopy audit` does. With code 0 a restore of
  * the chain, and of the chain up to each of its copies, gives what the log says, whoever wrote the

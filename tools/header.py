@@ -96,8 +96,10 @@ def functions():
         head = f"{RESULTS[result]} {name}("
         line = f"{head}{', '.join(words) or 'void'});"
         if len(line) > WIDTH:
-            line = head + "\n" + textwrap.fill(", ".join(words), WIDTH - 5, initial_indent="    ",
-                                               subsequent_indent="    ") + ");"
+            # A parameter stays on one line: its spaces are no places to break.
+            text = ", ".join(word.replace(" ", "\0") for word in words)
+            text = textwrap.fill(text, WIDTH - 5, initial_indent="    ", subsequent_indent="    ")
+            line = head + "\n" + text.replace("\0", " ") + ");"
         yield f"{comment(text_of(doc))}\n{line}"
 
 

@@ -1,4 +1,4 @@
-"""Checks logs of imgcopy, redoes them, finds where a crash has left one, and audits image copies against it.
+"""Checks logs of imgcopy, redoes them, finds where a crash has left one, recovers a database, and audits image copies.
 
     import imgcopy
     log = open("day/log", "rb").read()
@@ -20,7 +20,7 @@ MAX_PAGES = 65_536
 TOO_SHORT, LENGTHS_DIFFER = 1000, 1001
 
 # The name of each fault, and how many numbers follow it.
-NAMES = {1: ("OutOfMemory", 0), 30: ("BadHeader", 0), 31: ("BadRecord", 1), 32: ("Torn", 1), 33: ("ReadFault", 0),
+NAMES = {1: ("OutOfMemory", 0), 8: ("LogFull", 0), 30: ("BadHeader", 0), 31: ("BadRecord", 1), 32: ("Torn", 1), 33: ("ReadFault", 0),
          34: ("TooLong", 0), 35: ("BadChain", 1), 36: ("BadArchive", 1), 37: ("ChainBroken", 1), 38: ("CountDiffers", 0),
          39: ("RedoBeyondLog", 0), 40: ("PageBeyondLog", 1), 41: ("Unsound", 2)}
 
@@ -56,6 +56,16 @@ class LogPrefix(NamedTuple):
     forced_behind: Optional[int]
 
 
+class Recovered(NamedTuple):
+    """What a recovery makes of a log.
+
+    Each slot of `volume` has what was committed. Behind the log `tail` makes a log in which no transaction is open.
+    """
+
+    volume: bytes
+    tail: bytes
+
+
 class _Outcome(ctypes.Structure):
     _fields_ = [("code", ctypes.c_uint32), ("first", ctypes.c_uint64), ("second", ctypes.c_uint64),
                 ("third", ctypes.c_uint64)]
@@ -69,6 +79,7 @@ def _load(path):
     data, size, room, sizes = ctypes.c_char_p, ctypes.c_size_t, ctypes.c_void_p, ctypes.POINTER(ctypes.c_size_t)
     for call, types in ((library.imgcopy_check_log, [data, size]), (library.imgcopy_log_prefix, [data, size]),
                         (library.imgcopy_redo, [data, size, room, size]),
+                        (library.imgcopy_recover, [data, size, room, size, room, size]),
                         (library.imgcopy_audit, [data, size, data, size, sizes, size])):
         call.argtypes, call.restype = types, _Outcome
     return library
@@ -106,6 +117,18 @@ def log_prefix(log):
     told = _told(_library.imgcopy_log_prefix(log, len(log)))
     fault = Fault(told.second, told.first) if told.second else None
     return LogPrefix(told.first, fault, told.third or None)
+
+
+def recover(log):
+    """Recovers a database from its whole log, as a restart does. First cut the log where log_prefix says."""
+    of_volume, of_tail = 0, 0
+    while True:
+        volume, tail = (ctypes.create_string_buffer(max(length, 1)) for length in (of_volume, of_tail))
+        told = _library.imgcopy_recover(log, len(log), volume, of_volume, tail, of_tail)
+        if told.code != TOO_SHORT:
+            _told(told)
+            return Recovered(volume.raw[:told.first], tail.raw[:told.second])
+        of_volume, of_tail = told.first, told.second
 
 
 def audit(log, archives):

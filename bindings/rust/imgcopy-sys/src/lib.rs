@@ -32,6 +32,15 @@ extern "C" {
 
     pub fn imgcopy_log_prefix(log: *const u8, log_length: usize) -> imgcopy_outcome;
 
+    pub fn imgcopy_recover(
+        log: *const u8,
+        log_length: usize,
+        volume: *mut u8,
+        volume_length: usize,
+        tail: *mut u8,
+        tail_length: usize,
+    ) -> imgcopy_outcome;
+
     pub fn imgcopy_audit(
         log: *const u8,
         log_length: usize,

@@ -9,6 +9,8 @@ use std::fmt;
 pub enum Fault {
     /// Memory was refused.
     OutOfMemory,
+    /// The log has no room for the records of undo.
+    LogFull,
     /// The first 64 bytes are no header of a log.
     BadHeader,
     /// What stands at this offset of a log is no record that may stand there.
@@ -59,6 +61,7 @@ impl From<sys::imgcopy_outcome> for Fault {
         let (first, second) = (outcome.first, outcome.second);
         match outcome.code {
             1 => Fault::OutOfMemory,
+            8 => Fault::LogFull,
             30 => Fault::BadHeader,
             31 => Fault::BadRecord { at: first },
             32 => Fault::Torn { at: first },
@@ -89,6 +92,7 @@ impl fmt::Display for Fault {
     fn fmt(&self, f: &mut fmt::Formatter<'_>) -> fmt::Result {
         match *self {
             Fault::OutOfMemory => write!(f, "E1 OutOfMemory"),
+            Fault::LogFull => write!(f, "E8 LogFull"),
             Fault::BadHeader => write!(f, "E30 BadHeader"),
             Fault::BadRecord { at } => write!(f, "E31 BadRecord {at}"),
             Fault::Torn { at } => write!(f, "E32 Torn {at}"),

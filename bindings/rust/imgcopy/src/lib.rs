@@ -1,5 +1,5 @@
-//! Checks logs of imgcopy, redoes them, finds where a crash has left one, and audits image copies
-//! against it. The calls are proved, and made by libimgcopy; `include/imgcopy.h` says what each of
+//! Checks logs of imgcopy, redoes them, finds where a crash has left one, recovers a database from
+//! it, and audits image copies against it. The calls are proved, and made by libimgcopy; `include/imgcopy.h` says what each of
 //! them answers.
 //!
 //! ```no_run
@@ -42,6 +42,16 @@ pub struct LogPrefix {
     /// The LSN of the first record behind it that was forced. If there is one, records are lost
     /// that no crash takes: such a log is not to be cut.
     pub forced_behind: Option<u64>,
+}
+
+/// What a recovery makes of a log.
+#[derive(Clone, Debug, PartialEq, Eq)]
+pub struct Recovered {
+    /// The bytes of the volume, in which each slot has what was committed.
+    pub volume: Vec<u8>,
+    /// The bytes of the records that undo appends to the log: behind it they make a log in which no
+    /// transaction is open.
+    pub tail: Vec<u8>,
 }
 
 /// Checks whether the bytes are a whole log.
@@ -89,6 +99,38 @@ pub fn log_prefix(log: &[u8]) -> Result<LogPrefix, Fault> {
         fault: Fault::at_cut(told.second, told.first),
         forced_behind: (told.third != 0).then_some(told.third),
     })
+}
+
+/// Recovers a database from its whole log, as a restart does. First cut the log where `log_prefix`
+/// says.
+pub fn recover(log: &[u8]) -> Result<Recovered, Fault> {
+    let (mut volume, mut tail) = (vec![0; PAGE_BYTES * pages_in_header(log)], Vec::new());
+    loop {
+        // SAFETY: the pointers and the lengths are those of slices, and the two that are written are
+        // of two vectors.
+        let outcome = unsafe {
+            sys::imgcopy_recover(
+                log.as_ptr(),
+                log.len(),
+                volume.as_mut_ptr(),
+                volume.len(),
+                tail.as_mut_ptr(),
+                tail.len(),
+            )
+        };
+        match told(outcome) {
+            Ok(put) => {
+                volume.truncate(put.first as usize);
+                tail.truncate(put.second as usize);
+                return Ok(Recovered { volume, tail });
+            }
+            Err(Fault::TooShort { .. }) => {
+                volume.resize(outcome.first as usize, 0);
+                tail.resize(outcome.second as usize, 0);
+            }
+            Err(fault) => return Err(fault),
+        }
+    }
 }
 
 /// Audits the archives of a chain of image copies, the full copy first, against a log. It copies

@@ -1,6 +1,6 @@
 //! The logs of examples/, and what the program is expected to make of them.
 
-use imgcopy::{audit, audit_joined, check_log, log_prefix, redo, redo_into, Fault};
+use imgcopy::{audit, audit_joined, check_log, log_prefix, recover, redo, redo_into, Fault};
 use std::fs;
 use std::path::{Path, PathBuf};
 
@@ -90,5 +90,31 @@ fn archives_have_to_add_up_and_to_begin() {
             audit_joined(&log, &[0; 2], lengths),
             Err(Fault::LengthsDiffer)
         );
+    }
+}
+
+#[test]
+fn a_recovered_log_has_nothing_to_recover() {
+    for name in [
+        "checkpoint",
+        "four_records",
+        "growth",
+        "interleaved",
+        "rollback",
+    ] {
+        let log = log(name);
+        // What is open where the log is cut is undone.
+        for end in (64..=log.len()).step_by(64) {
+            let cut = &log[..end];
+            let found = recover(cut).expect(name);
+            let whole = [cut, &found.tail].concat();
+            assert_eq!(redo(&whole), Ok(found.volume.clone()), "{name} up to {end}");
+            let again = recover(&whole).expect(name);
+            assert_eq!(
+                (again.volume, again.tail.len()),
+                (found.volume, 0),
+                "{name} up to {end}"
+            );
+        }
     }
 }
