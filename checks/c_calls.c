@@ -3,6 +3,9 @@
  * usage: c_calls LOG VOLUME ARCHIVE..     prints what each call answers, a line each, and writes the volume
  *        c_calls --draw COUNT SEED LOG.. changes bytes of these logs so many times, and of each one tries whether what
  *                                        the calls answer of it agrees
+ *        c_calls --refuse LOG ARCHIVE..  refuses each allocation of each call in turn
+ *
+ * It is linked with --wrap for malloc and realloc, so that it can refuse what the library asks for.
  */
 #include "imgcopy.h"
 
@@ -17,6 +20,26 @@ typedef struct bytes {
     uint8_t *at;
     size_t length;
 } bytes;
+
+void *__real_malloc(size_t size);
+void *__real_realloc(void *at, size_t size);
+void *__wrap_malloc(size_t size);
+void *__wrap_realloc(void *at, size_t size);
+
+/* Counts down to the allocation that is refused; below 0 none is. */
+static long until_refused = -1;
+
+static int is_refused(void) {
+    return until_refused >= 0 && until_refused-- == 0;
+}
+
+void *__wrap_malloc(size_t size) {
+    return is_refused() ? NULL : __real_malloc(size);
+}
+
+void *__wrap_realloc(void *at, size_t size) {
+    return is_refused() ? NULL : __real_realloc(at, size);
+}
 
 static void fail(const char *why, const char *what) {
     fprintf(stderr, "c_calls: %s: %s\n", why, what);
@@ -46,25 +69,31 @@ static void tell(const char *call, imgcopy_outcome it) {
     printf("%s %" PRIu32 " %" PRIu64 " %" PRIu64 " %" PRIu64 "\n", call, it.code, it.first, it.second, it.third);
 }
 
-static void tell_files(char **names, int count) {
-    bytes log = read_file(names[0]), archives = {block(0), 0};
-    uint8_t *volume = block(MOST_VOLUME);
-    size_t *lengths = malloc(sizeof *lengths * (size_t)count);
-    if (!lengths) fail("out of memory", "the lengths");
-    for (int i = 2; i < count; i++) {
-        bytes archive = read_file(names[i]);
-        archives.at = realloc(archives.at, archives.length + archive.length + 1);
-        if (!archives.at) fail("out of memory", names[i]);
-        memcpy(archives.at + archives.length, archive.at, archive.length);
-        archives.length += archive.length;
-        lengths[i - 2] = archive.length;
-        free(archive.at);
+/* Reads these files one behind another. */
+static bytes read_files(char **names, size_t count, size_t *lengths) {
+    bytes all = {block(0), 0};
+    for (size_t i = 0; i < count; i++) {
+        bytes one = read_file(names[i]);
+        all.at = realloc(all.at, all.length + one.length + 1);
+        if (!all.at) fail("out of memory", names[i]);
+        memcpy(all.at + all.length, one.at, one.length);
+        all.length += one.length;
+        lengths[i] = one.length;
+        free(one.at);
     }
+    return all;
+}
+
+static void tell_files(char **names, size_t count) {
+    size_t *lengths = malloc(sizeof *lengths * count);
+    if (!lengths) fail("out of memory", "the lengths");
+    bytes log = read_file(names[0]), archives = read_files(names + 2, count - 2, lengths);
+    uint8_t *volume = block(MOST_VOLUME);
     tell("check", imgcopy_check_log(log.at, log.length));
     imgcopy_outcome made = imgcopy_redo(log.at, log.length, volume, MOST_VOLUME);
     tell("redo", made);
     tell("prefix", imgcopy_log_prefix(log.at, log.length));
-    tell("audit", imgcopy_audit(log.at, log.length, archives.at, archives.length, lengths, (size_t)count - 2));
+    tell("audit", imgcopy_audit(log.at, log.length, archives.at, archives.length, lengths, count - 2));
     FILE *file = fopen(names[1], "wb");
     size_t length = made.code == 0 ? (size_t)made.first : 0;
     if (!file || fwrite(volume, 1, length, file) != length || fclose(file)) fail("it cannot be written", names[1]);
@@ -141,6 +170,38 @@ static void try_drawn(bytes from) {
     free(log), free(room);
 }
 
+/* Makes each call again and again, and refuses it one allocation later each time, until it is refused none: it has to
+ * answer 1 until then, and to leave both rooms as they were. */
+static void refuse_each(char **names, size_t count) {
+    enum { ROOM = 1 << 20 };
+    size_t lengths[64];
+    bytes log = read_file(names[0]), archives = read_files(names + 1, count - 1, lengths);
+    uint8_t *rooms = block(2 * ROOM);
+    for (int call = 0; call < 5; call++) {
+        for (long turn = 0;; turn++) {
+            imgcopy_outcome it;
+            memset(rooms, MARK, 2 * ROOM);
+            until_refused = turn;
+            switch (call) {
+            case 0: it = imgcopy_check_log(log.at, log.length); break;
+            case 1: it = imgcopy_redo(log.at, log.length, rooms, ROOM); break;
+            case 2: it = imgcopy_log_prefix(log.at, log.length); break;
+            case 3: it = imgcopy_recover(log.at, log.length, rooms, ROOM, rooms + ROOM, ROOM); break;
+            default: it = imgcopy_audit(log.at, log.length, archives.at, archives.length, lengths, count - 1);
+            }
+            int was_refused = until_refused < 0;
+            until_refused = -1;
+            if (!was_refused) {
+                hold(it.code == 0 && turn > 0, "a call that is refused nothing goes well");
+                break;
+            }
+            hold(it.code == IMGCOPY_OUT_OF_MEMORY && it.first == 0, "a refused allocation is told");
+            for (size_t i = 0; i < 2 * ROOM; i++) hold(rooms[i] == MARK, "both rooms are as they were");
+        }
+    }
+    free(rooms), free(archives.at), free(log.at);
+}
+
 int main(int count, char **words) {
     hold(imgcopy_abi() == IMGCOPY_ABI, "the header is of this library");
     if (count >= 5 && strcmp(words[1], "--draw") == 0) {
@@ -153,7 +214,11 @@ int main(int count, char **words) {
         }
         return 0;
     }
-    if (count < 3) fail("usage", "c_calls LOG VOLUME ARCHIVE.., or c_calls --draw COUNT SEED LOG..");
-    tell_files(words + 1, count - 1);
+    if (count < 3) fail("usage", "c_calls LOG VOLUME ARCHIVE.., or with --draw or --refuse");
+    if (strcmp(words[1], "--refuse") == 0) {
+        refuse_each(words + 2, (size_t)count - 2);
+        return 0;
+    }
+    tell_files(words + 1, (size_t)count - 1);
     return 0;
 }

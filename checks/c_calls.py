@@ -7,7 +7,8 @@ out, and the last line says so.
 
 - The symbols of the library are its exports and what it takes of the C library.
 - From C, with the sanitizers where they are there: the logs of examples/, the day's copies, and the program of
-  docs/USING.md; and some thousand logs with drawn changes, of which all calls have to agree. C++ reads the header, too.
+  docs/USING.md; some thousand logs with drawn changes, of which all calls have to agree; and each allocation refused.
+  C++ reads the header, too.
 - From Rust: the tests of bindings/rust, and the day's copies.
 - From Python: each of the spoiled logs of faults.py but the longest ones, and chains of random scripts whose files are
   spoiled, each against the model, which the program is compared with elsewhere.
@@ -142,7 +143,7 @@ def sanitizers(cc, place):
 
 def check_c(cc, program, folder, place, day):
     flags, caller = sanitizers(cc, place), place / "c_calls"
-    compiled(cc, folder, ROOT / "checks" / "c_calls.c", caller, ["-O1", *flags])
+    compiled(cc, folder, ROOT / "checks" / "c_calls.c", caller, ["-O1", *flags, "-Wl,--wrap=malloc,--wrap=realloc"])
     logs = sorted(EXAMPLES.glob("*.log"))
     for log in logs:
         said = run([caller, log, place / "made"]).splitlines()
@@ -152,6 +153,7 @@ def check_c(cc, program, folder, place, day):
         line = audited(program, day, copies)
         same(f"C, an audit of {copies}", said[3], " ".join(["audit", *map(str, numbers_of(line))]))
         same("C, the day's volume", (place / "made").read_bytes(), redone(program, day / "log"))
+    run([caller, "--refuse", day / "log", *(day / copy for copy in COPIES)])
     run([caller, "--draw", DRAWN, os.getpid(), *(log for log in logs if log.stat().st_size < 10_000)])
     check_page(cc, folder, place)
     cxx = compiler("CXX", "c++")
