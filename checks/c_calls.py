@@ -88,6 +88,7 @@ def check_symbols(folder):
 
 def save_day(program, place):
     """The day of the demo, with a log and three copies."""
+    place.mkdir()
     with open(EXAMPLES / "day.script", "rb") as script:
         run([program, "run", "--pages", "3", "--save", place], stdin=script)
 
