@@ -112,7 +112,7 @@ static void hold(int holds, const char *what) {
     if (!holds) fail("the calls do not agree", what);
 }
 
-/* A log with its tail has nothing to undo, and redo of it makes the same volume. A log of the first format stays one. */
+/* A log with its tail has nothing to undo, and redo of it makes the same volume. */
 static void try_recovery(const uint8_t *log, size_t length) {
     imgcopy_outcome needs = imgcopy_recover(log, length, NULL, 0, NULL, 0);
     hold(needs.code == IMGCOPY_TOO_SHORT && needs.first > 0 && needs.second % 64 == 0, "a recovery needs room");

@@ -1,7 +1,6 @@
 //! Laws of the calls, for readers of their contracts.
 
 ghost use Rattle.std.specs.Prelude.{ℕ, ◌≡◌, ◌++◌, ◌⊎◌, [], List, take};
-ghost use Rattle.page_core.specs.declared.format.Format.TheVariants.{Second};
 ghost use Rattle.log_records.specs.Log.{Log};
 ghost use Rattle.log_rules.specs.Transactions.{open_in};
 ghost use Rattle.loser_undo.specs.Undo.{after_undo};
@@ -24,12 +23,12 @@ pub fn right_logs_are_refused_for_memory_alone()
         → (it.code ≡ 1) ⊎ (it.code ≡ 33) }
 {}
 
-/// The bytes of a log of the second format, with those of the tail behind them, are again a log: the
-/// one after undo, in which no transaction is open. So a database goes on from there.
+/// The bytes of a log, with those of the tail behind them, are again a log: the one after undo, in
+/// which no transaction is open. So a database goes on from there.
 pub fn a_recovered_log_goes_on()
     ensures log { (bytes volume made tail undo : List ℕ) (it : Outcome)
         → (found : IsRecovered bytes volume made tail undo it)
-        → found.of_log.spells.format ≡ Second → IsLogOf (bytes ++ take it.second undo)
+        → IsLogOf (bytes ++ take it.second undo)
         (record found.log { records = after_undo found.log.records }) }
     ensures closed { (bytes volume made tail undo : List ℕ) (it : Outcome)
         → (found : IsRecovered bytes volume made tail undo it)

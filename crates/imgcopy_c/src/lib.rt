@@ -90,9 +90,9 @@ pub extern "C" fn imgcopy_log_prefix(alloc: Global, log: &[u8]) -> Outcome
 /// `imgcopy_log_prefix` says.
 ///
 /// Puts the volume at the front of `volume`, as `imgcopy_redo` does, and at the front of `tail` the
-/// records that undo appends to the log, 64 bytes each. Behind the log of the second format, AIMGLOG2,
-/// these make a log in which no transaction is open, and each slot of the volume has what was
-/// committed. So store the tail behind the log before you go on with the volume.
+/// records that undo appends to the log, 64 bytes each. Behind the log these make a log in which no
+/// transaction is open, and each slot of the volume has what was committed. So store the tail behind
+/// the log before you go on with the volume.
 ///
 /// With code 0 `first` is how many bytes of the volume were put there, and `second` how many of the
 /// tail. Those behind them are as they were.
