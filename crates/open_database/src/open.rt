@@ -343,7 +343,7 @@ fn outcome<F: Folder, S: PageStore, D: LogDevice>(
 {
     let is_strict = call.strict && session.tally.has_refused();
     if is_strict {
-        let tally = session.tally;
+        let tally = &session.tally;
         session.diagnostics.line(&format_args!("imgcopy: {tally}"));
     }
     if session.has_failed {

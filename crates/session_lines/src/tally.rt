@@ -1,10 +1,11 @@
 //! How many lines were answered by a refusal, or were no calls.
 
 use std::fmt;
+use std::marker::Model;
 
 /// How many lines were answered, and how many of them by a refusal, or since they were no calls.
-/// Its text is a line for a person.
-#[derive(Clone, Copy, Debug)]
+/// Its text is a line for a person. Clauses see whether any line was refused.
+#[derive(Debug, Drop)]
 pub struct Tally {
     lines: u64,
     refused: u64,
@@ -12,9 +13,21 @@ pub struct Tally {
     first: u64,
 }
 
+impl Model for Tally {
+    ghost use Rattle.std.specs.Prelude.{Bool, nat_lt};
+
+    ghost Value = { Bool };
+
+    ghost view = { λ it. nat_lt 0 it.refused };
+}
+
 impl Tally {
+    ghost use Rattle.std.specs.Prelude.{◌≡◌, ◌||◌, false};
+
     /// No line was taken.
-    pub fn new() -> Tally {
+    pub fn new() -> Tally
+        ensures { result ≡ false }
+    {
         Tally {
             lines: 0,
             refused: 0,
@@ -23,7 +36,9 @@ impl Tally {
     }
 
     /// Takes note of an answer to the line of this number.
-    pub fn note(&mut self, number: u64, is_refused: bool) {
+    pub fn note(&mut self, number: u64, is_refused: bool)
+        ensures { self.new ≡ (is_refused || self.old) }
+    {
         self.lines = self.lines.saturating_add(1);
         if !is_refused {
             return;
@@ -35,7 +50,9 @@ impl Tally {
     }
 
     /// Whether any line was refused.
-    pub fn has_refused(&self) -> bool {
+    pub fn has_refused(&self) -> bool
+        ensures { result ≡ self.now }
+    {
         self.refused > 0
     }
 }
