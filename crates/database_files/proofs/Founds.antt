@@ -19,7 +19,7 @@ use Rattle.saved_files.specs.Saved.{name_of}
 use Rattle.saved_files.specs.declared.saved_name.SavedName.TheVariants as saved
 use Rattle.database_files.specs.Closed.{SpellsNote}
 use Rattle.database_files.specs.DatabaseFolder.{AreOf, BeginsIn, ListsAll, MayBeNotAFile, Tells}
-use Rattle.database_files.specs.Found.{AreFoundIn, IsCopyAt, IsCopyIn, IsCopyReadOf, IsFoundAt, IsFoundIn, IsHadIn, IsInventoryOf, IsReadOf, IsRefusedFor, SpellsManifest, TellsNames}
+use Rattle.database_files.specs.Found.{AreFoundIn, IsCopyAt, IsCopyIn, IsCopyReadOf, IsFoundAt, IsFoundIn, IsHadIn, IsInventoryOf, IsReadOf, IsRefusedFor, IsUnreadOnceTried, SpellsManifest, TellsNames}
 use Rattle.database_files.specs.Evidence.{log_line}
 use Rattle.database_files.specs.Found.{HasNoOrphan, TellsOfNoLog}
 use Rattle.database_files.specs.Standing.{IsUnfinished}
@@ -229,6 +229,20 @@ pub one_read : (entries : Option Entries) (files now : List CopyFile) (file : Co
 one_read None files now file pushed so_far read = tt
 one_read (Some there) files now file pushed so_far read =
     subst (λ (all : List CopyFile). All (IsCopyIn there) all) (sym pushed) (All-push (IsCopyIn there) files file so_far read)
+
+-- ---- copies that could not be read
+
+pub none_tried : (was_asked : List ℕ → Type 0) (files : List CopyFile) → files ≡ []
+    → All (IsUnreadOnceTried was_asked) files
+none_tried was_asked files none =
+    subst (λ (all : List CopyFile). All (IsUnreadOnceTried was_asked) all) (sym none) (All-nil (IsUnreadOnceTried was_asked))
+
+pub one_tried : (was_asked : List ℕ → Type 0) (files now : List CopyFile) (file : CopyFile)
+    → now ≡ files ++ file ∷ [] → All (IsUnreadOnceTried was_asked) files → was_asked (name_of (saved.Copy file.id))
+    → All (IsUnreadOnceTried was_asked) now
+one_tried was_asked files now file pushed so_far tried =
+    subst (λ (all : List CopyFile). All (IsUnreadOnceTried was_asked) all) (sym pushed)
+    (All-push (IsUnreadOnceTried was_asked) files file so_far (λ unread. tried))
 
 -- ---- all of them
 

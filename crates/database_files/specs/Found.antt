@@ -113,6 +113,10 @@ IsCopyAt (stored bytes) it = IsCopyReadOf bytes it
 abbrev pub IsCopyIn : Entries → CopyFile → Type 0
 IsCopyIn there file = IsCopyAt (there (name_of (saved.Copy file.id))) file.found
 
+-- a copy that could not be read was asked for by its name
+abbrev pub IsUnreadOnceTried : (List ℕ → Type 0) → CopyFile → Type 0
+IsUnreadOnceTried was_asked file = IsUnread file.found → was_asked (name_of (saved.Copy file.id))
+
 -- what was found beside the log is what stands there, and no copy is left out
 pub record AreFoundAt (there : Entries) (note : Option ClosedNote) (manifest : Option Listed)
     (master : Option Master) (copies : List CopyFile) : Type 0 where

@@ -1,6 +1,6 @@
 -- The manifest that is kept: which files it names, and how much of a log that grows is summed.
-use Rattle.std.specs.Prelude.{ℕ, ◌≡◌, ◌≢◌, codes, IfSome, List, None, Option, Some, ◌-◌, ◌/◌, ◌++◌}
-use Rattle.std.specs.Prelude.{if◌then◌else◌, take}
+use Rattle.std.specs.Prelude.{ℕ, ◌≡◌, ◌≢◌, ◌⊎◌, codes, IfSome, IsSome, List, None, Option, Some}
+use Rattle.std.specs.Prelude.{◌-◌, ◌/◌, ◌++◌, Bool, true, if◌then◌else◌, take}
 use Rattle.std.specs.Io.KnownBytes.{Appends}
 use Rattle.manifest.specs.Entries.{Listed, Noted, file_of}
 use Rattle.manifest.specs.Text.{manifest_text}
@@ -8,7 +8,8 @@ use Rattle.saved_files.specs.Folder.{Entries, absent}
 use Rattle.saved_files.specs.PutFault.{bytes_by}
 use Rattle.saved_files.specs.Saved.{name_of}
 use Rattle.saved_files.specs.declared.saved_name.SavedName.TheVariants as saved
-use Rattle.database_files.specs.Found.{IsFoundIn, SpellsManifest}
+use Rattle.copy_vault.specs.Vault.{CopyState, complete_of, state_of}
+use Rattle.database_files.specs.Found.{IsFoundIn, NamesCopy, SpellsManifest}
 use Rattle.database_files.specs.DatabaseFolder.{HasFile}
 use Rattle.std.specs.List.{flat_map}
 use Rattle.std.specs.Str.{bytes_eq}
@@ -73,6 +74,40 @@ KeepsOtherLines copy old new = (name : List ℕ) → name ≢ name_of saved.Log
 abbrev pub KeepsLines : Option Entries → List Noted → List Noted → Type 0
 KeepsLines entries old new =
     IfSome entries (λ there. (n : List ℕ) → there n ≢ absent → file_of n new ≡ file_of n old)
+
+-- a name is of no copy, or of one that is complete among these; where no copies are told, it may be
+-- of any
+abbrev pub IsUsed : Option (List CopyState) → List ℕ → Type 0
+IsUsed None name = Unit {0}
+IsUsed (Some copies) name = (id : ℕ) → NamesCopy id name → IsSome (complete_of (state_of copies id))
+
+-- of the files that stand in a folder and are used so, all is noted that was
+abbrev pub KeepsUsedLines : Option Entries → Option (List CopyState) → List Noted → List Noted → Type 0
+KeepsUsedLines entries copies old new = IfSome entries (λ there. (n : List ℕ) → there n ≢ absent
+    → IsUsed copies n → file_of n new ≡ file_of n old)
+
+-- so it is, but for the log, where that is another one than the lines name
+abbrev pub KeepsLinesOf : Option Entries → List CopyState → Bool → List Noted → List Noted → Type 0
+KeepsLinesOf entries copies is_of_this old new =
+    IfSome entries (λ there. (n : List ℕ) → there n ≢ absent → IsUsed (Some copies) n
+    → (n ≢ codes "log") ⊎ (is_of_this ≡ true) → file_of n new ≡ file_of n old)
+
+-- so it is with the lines of the manifest that was found, if it still stands there; the log is the
+-- one that it names where the bytes were summed
+abbrev pub KeepsFoundLines : Option Entries → List CopyState → Option Sums → List Noted → List Noted
+    → Type 0
+KeepsFoundLines entries copies sums old new = IfSome entries (λ there. there (codes "manifest") ≢ absent
+    → (n : List ℕ) → there n ≢ absent → IsUsed (Some copies) n → (n ≢ codes "log") ⊎ IsSome sums
+    → file_of n new ≡ file_of n old)
+
+-- the name of a database is the one that a manifest has, if there is one
+abbrev pub IsNameIn : Option Listed → List ℕ → Type 0
+IsNameIn found name = IfSome found (λ it. it.database ≡ name)
+
+-- the manifest that stands in a folder, if one does, is of the database of this name
+abbrev pub HasManifestOf : List ℕ → Option Entries → Type 0
+HasManifestOf database entries = (found : Option Listed)
+    × IsFoundIn SpellsManifest entries (codes "manifest") found × IsNameIn found database
 
 -- these lines are those of the manifest that stands there, without those of files that do not
 pub record TakesLines (entries : Option Entries) (lines : List Noted) : Type 0 where

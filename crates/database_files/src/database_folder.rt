@@ -80,6 +80,9 @@ pub trait DatabaseFolder: Folder {
     /// All bytes of the file of a log, as far as they are known.
     ghost held: { Self.Log → Option (List ℕ) };
 
+    /// What has this name was asked for, to be read. Only `open_file` tells so.
+    ghost was_asked: { Self → List ℕ → Type 0 };
+
     /// Claims the folder, until it is dropped. It is asked for again for a while where another one
     /// has it.
     fn claim_or_wait(&mut self) -> Result<(), ClaimFault>
@@ -98,8 +101,9 @@ pub trait DatabaseFolder: Folder {
     /// Opens the file of this name. A link is followed. What is no file is not opened: of a pipe an
     /// open may never end.
     fn open_file(&self, name: &str) -> io::Result<Standing<Self::Reader>>
-        ensures { IfOk result (λ it.
-            Opens it Self.Reader.remaining (Self.entries self.now) name.now) };
+        ensures opened { IfOk result (λ it.
+            Opens it Self.Reader.remaining (Self.entries self.now) name.now) }
+        ensures asked { Self.was_asked self.now name.now };
 
     /// All bytes of the file of this name. A link is followed.
     fn whole(&self, name: &str) -> io::Result<Standing<Vec<u8>>>

@@ -1,10 +1,11 @@
 //! The files of copies, as they are found in a folder.
 
-ghost use Rattle.std.specs.Prelude.{◌≡◌, IfOk, IfSome, map};
+ghost use Rattle.std.specs.Prelude.{◌≡◌, IfOk, IfSome, OnOk, map};
 ghost use Rattle.std.specs.List.{All};
 ghost use Rattle.saved_files.specs.Saved.{name_of};
 ghost use Rattle.saved_files.specs.declared.saved_name.SavedName.TheVariants as saved;
 ghost use Rattle.database_files.specs.Found.{IsCopyAt, IsCopyIn, IsCopyReadOf, IsRefusedFor};
+ghost use Rattle.database_files.specs.Found.{IsUnreadOnceTried};
 
 use crate::copy_trouble::CopyTrouble;
 use crate::database_folder::{DatabaseFolder, Standing};
@@ -43,6 +44,9 @@ pub fn read_copies<F: DatabaseFolder>(
     ensures ids { IfOk result (λ files. map (λ file. file.id) files.items ≡ ids.now) }
     ensures found { IfOk result (λ files. IfSome (F.entries folder.now) (λ there.
         All (IsCopyIn there) files.items)) }
+    // None is told to be unread that was not tried.
+    ensures tried { IfOk result (λ files.
+        All (IsUnreadOnceTried (F.was_asked folder.now)) files.items) }
 {
     let mut copies = Vec::new(alloc);
     for id in ids {
@@ -57,8 +61,9 @@ fn read_copy<F: DatabaseFolder>(
     folder: &F,
     id: CopyId,
 ) -> Result<FoundCopy, AllocError>
-    ensures { IfOk result (λ it. IfSome (F.entries folder.now) (λ there.
+    ensures found { IfOk result (λ it. IfSome (F.entries folder.now) (λ there.
         IsCopyAt (there (name_of (saved.Copy id))) it)) }
+    ensures tried { OnOk result (F.was_asked folder.now (name_of (saved.Copy id))) }
 {
     let name = format!(in alloc; "{}", SavedName::Copy(id))?;
     match folder.open_file(name.as_str()) {

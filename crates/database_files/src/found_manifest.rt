@@ -5,6 +5,7 @@ ghost use Rattle.manifest.specs.Sums.{HasSummed};
 ghost use Rattle.database_files.specs.DatabaseFolder.{Tells};
 ghost use Rattle.database_files.specs.Evidence.{BeginsAs, log_line};
 ghost use Rattle.database_files.specs.Found.{IsFoundIn, SpellsManifest};
+ghost use Rattle.database_files.specs.Kept.{IsNameIn};
 
 use crate::database_folder::DatabaseFolder;
 use crate::fault::OpenFault;
@@ -67,7 +68,9 @@ pub(crate) fn sums_of(file: &FileSum, bytes: &[u8]) -> Option<Sums>
 pub fn name_for<F: DatabaseFolder>(
     folder: &F,
     manifest: &Option<Manifest>,
-) -> Result<DatabaseName, OpenFault> {
+) -> Result<DatabaseName, OpenFault>
+    ensures { IfOk result (λ it. IsNameIn manifest.now it.0) }
+{
     match manifest {
         Some(manifest) => Ok(manifest.database()),
         None => drawn_name(folder),

@@ -1,8 +1,9 @@
 //! The manifest that an open database keeps, and the sum of its log.
 
-ghost use Rattle.std.specs.Prelude.{IfOk, ℕ, ◌≡◌, ◌≢◌, ◌++◌, [], List, IfSome, IsTrue, None};
+ghost use Rattle.std.specs.Prelude.{IfOk, ℕ, ◌≡◌, ◌≢◌, ◌⊎◌, ◌++◌, [], List, IfSome, IsTrue, None};
 ghost use Rattle.std.specs.Prelude.{OnOk, Some, false, string_bytes};
 ghost use Rattle.std.specs.List.{flat_map};
+ghost use Rattle.std.specs.Option.{option_map};
 ghost use Rattle.log_records.specs.Log.{Log as TheLog, header_bytes};
 ghost use Rattle.log_records.specs.Record.{record_bytes};
 ghost use Rattle.manifest.specs.Entries.{file_of};
@@ -10,7 +11,9 @@ ghost use Rattle.manifest.specs.declared.entry.Extent.TheVariants.{First};
 ghost use Rattle.manifest.specs.Sums.{HasSummed, IsSumOf};
 ghost use Rattle.database_files.specs.DatabaseFolder.{Tells};
 ghost use Rattle.database_files.specs.Evidence.{log_line};
-ghost use Rattle.database_files.specs.Kept.{HasSummedLog, HaveSummedLine, KeepsLines, bytes_below};
+ghost use Rattle.database_files.specs.Kept.{HasSummedLog, HaveSummedLine, IsNameIn, IsUsed};
+ghost use Rattle.database_files.specs.Kept.{KeepsFoundLines, KeepsLines, KeepsLinesOf};
+ghost use Rattle.database_files.specs.Kept.{KeepsUsedLines, bytes_below};
 
 use crate::database_folder::DatabaseFolder;
 use crate::diagnostics::Diagnostics;
@@ -109,7 +112,8 @@ pub struct KeptManifest {
 impl KeptManifest {
     /// The manifest of a new database of this name, whose log's header gives this page count.
     pub fn new(alloc: Global, database: DatabaseName, pages: u32) -> KeptManifest
-        ensures { (log : TheLog) → log.pages ≡ pages → HasSummedLog result.log log }
+        ensures manifest { result.manifest ≡ record { database = database.0; entries = [] } }
+        ensures summed { (log : TheLog) → log.pages ≡ pages → HasSummedLog result.log log }
     {
         KeptManifest {
             manifest: Manifest::new(alloc, database),
@@ -130,7 +134,12 @@ impl KeptManifest {
         pages: u32,
         copies: &Vault,
     ) -> Result<KeptManifest, OpenFault>
-        ensures { IfOk result (λ it. (log : TheLog) → log.pages ≡ pages
+        // The manifest that was found has this name.
+        requires { IsNameIn found.0 database.0 }
+        ensures database { IfOk result (λ it. it.manifest.database ≡ database.0) }
+        ensures lines { IfOk result (λ it. IfSome found.0 (λ old. KeepsFoundLines
+            (F.entries folder.now) copies.now.copies found.1 old.entries it.manifest.entries)) }
+        ensures summed { IfOk result (λ it. (log : TheLog) → log.pages ≡ pages
             → HaveSummedLine found.1 (log_line found.0) log → HasSummedLog it.log log) }
     {
         let mut kept = KeptManifest::new(diagnostics.alloc, database, pages);
@@ -139,17 +148,16 @@ impl KeptManifest {
         // A line that this log does not begin with is of another one.
         let is_of_this = line.is_none() || sums.is_some();
         kept.log = LogSums::found(sums, line, pages);
-        if let Some(it) = found {
-            if stands(folder, MANIFEST)? {
-                let (mut manifest, has_all) = without_lost(diagnostics, folder, it, Some(copies))?;
-                if !is_of_this {
-                    manifest.remove(LOG);
-                }
-                kept.manifest = manifest;
-                kept.is_placed = has_all && is_of_this;
-                kept.is_due = !kept.is_placed;
-            }
+        let Some(it) = found else {
+            return Ok(kept);
+        };
+        if !stands(folder, MANIFEST)? {
+            return Ok(kept);
         }
+        let (manifest, has_all) = lines_of(diagnostics, folder, it, copies, is_of_this)?;
+        kept.manifest = manifest;
+        kept.is_placed = has_all;
+        kept.is_due = !has_all;
         Ok(kept)
     }
 
@@ -160,6 +168,27 @@ impl KeptManifest {
             None => false,
         }
     }
+}
+
+/// A manifest without the lines of files that are gone, of copies that were not taken up, and of a
+/// log that is another one; and whether it has all of its lines.
+fn lines_of<F: DatabaseFolder>(
+    diagnostics: &Diagnostics<'_>,
+    folder: &F,
+    manifest: Manifest,
+    copies: &Vault,
+    is_of_this: bool,
+) -> Result<(Manifest, bool), OpenFault>
+    ensures database { IfOk result (λ it. it.0.database ≡ manifest.database) }
+    ensures kept { IfOk result (λ it. KeepsLinesOf (F.entries folder.now) copies.now.copies
+        is_of_this manifest.entries it.0.entries) }
+{
+    let (mut manifest, has_all) = without_lost(diagnostics, folder, manifest, Some(copies))?;
+    if is_of_this {
+        return Ok((manifest, has_all));
+    }
+    manifest.remove(LOG);
+    Ok((manifest, false))
 }
 
 /// A manifest without the lines of files that are gone, and of copies that were not taken up, where
@@ -173,6 +202,8 @@ pub fn without_lost<F: DatabaseFolder>(
     ensures database { IfOk result (λ it. it.0.database ≡ manifest.database) }
     ensures kept { IfOk result (λ it. copies.entry ≡ None
         → KeepsLines (F.entries folder.now) manifest.entries it.0.entries) }
+    ensures used { IfOk result (λ it. KeepsUsedLines (F.entries folder.now)
+        (option_map (λ it. it.now.copies) copies.entry) manifest.entries it.0.entries) }
 {
     let mut has_all = true;
     for _ in 0..MOST_LINES {
@@ -197,8 +228,11 @@ fn lost_name<F: DatabaseFolder>(
     manifest: &Manifest,
     copies: Option<&Vault>,
 ) -> Result<Option<String>, OpenFault>
-    ensures { IfOk result (λ it. IfSome it (λ name. copies.entry ≡ None
+    ensures gone { IfOk result (λ it. IfSome it (λ name. copies.entry ≡ None
         → Tells (F.entries folder.now) (string_bytes name) false)) }
+    ensures unused { IfOk result (λ it. IfSome it (λ name.
+        (¬ IsUsed (option_map (λ it. it.now.copies) copies.entry) (string_bytes name))
+        ⊎ Tells (F.entries folder.now) (string_bytes name) false)) }
 {
     for entry in manifest.entries() {
         let name = entry.name();
@@ -211,7 +245,9 @@ fn lost_name<F: DatabaseFolder>(
 
 /// Whether this is the name of a copy that is taken up, or of no copy.
 fn is_used(copies: Option<&Vault>, name: &str) -> bool
-    ensures { copies.entry ≡ None → IsTrue result }
+    ensures any { copies.entry ≡ None → IsTrue result }
+    ensures unused { result ≡ false
+        → ¬ IsUsed (option_map (λ it. it.now.copies) copies.entry) name.now }
 {
     match (copies, copy_of(name)) {
         (Some(copies), Some(id)) => copies.complete(id).is_some(),

@@ -1,10 +1,10 @@
 //! The file of a log.
 
-ghost use Rattle.std.specs.Prelude.{◌≡◌, ◌≤◌, true, IfOk, length};
+ghost use Rattle.std.specs.Prelude.{◌≡◌, true, IfOk, length};
 ghost use Rattle.engine_restart.specs.LogFile.{LastsOnFile};
 ghost use Rattle.log_prefix.specs.Front.{IsFrontOf};
 ghost use Rattle.log_rules.specs.Linked.{IsLinked};
-ghost use Rattle.database_files.specs.DatabaseFolder.{AreFirstOf};
+ghost use Rattle.database_files.specs.DatabaseFolder.{AreFirstOf, IsHeadless};
 
 use crate::database_folder::{DatabaseFolder, LogFault};
 use crate::fault::OpenFault;
@@ -27,7 +27,7 @@ pub struct LogFile<L> {
 /// Whether a log never had a header: it was cut off while it was made. A header is stored by one
 /// write, so after a loss of power its place may be there with zeros in it.
 pub fn is_headless<F: DatabaseFolder>(log: &LogFile<F::Log>) -> io::Result<bool>
-    ensures { IfOk result (λ is. is ≡ true → log.now.len ≤ HEADER_BYTES) }
+    ensures { IfOk result (λ is. is ≡ true → IsHeadless (F.held log.now.file) log.now.len) }
 {
     if log.len != HEADER_BYTES as u64 {
         return Ok(log.len < HEADER_BYTES as u64);

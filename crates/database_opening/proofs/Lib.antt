@@ -1,6 +1,7 @@
 mod Anew
 mod Forgotten
-mod LogThere
+pub mod LogThere
+pub mod Public
 mod Resumed
 mod TakingUp
 mod Volumes

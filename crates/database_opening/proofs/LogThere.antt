@@ -1,7 +1,8 @@
 -- The log that stands in a folder.
-use Rattle.std.proofs.Common.{◌≡◌, ◌∙◌, ℕ, Bool, List, [], ap, arith, inl, inr, length, slice_index_or, subst, sym, take}
+use Rattle.std.proofs.Common.{◌≡◌, ◌∙◌, ◌≤◌, ℕ, Bool, List, [], ap, arith, inl, inr, length, slice_index_or, subst, sym, take}
 use Rattle.std.specs.Prelude.{codes, Err, IfOk, IfSome, None, Ok, Option, Result, Some}
-use Rattle.std.proofs.lemmas.List.{take_all}
+use Rattle.std.specs.Prelude.{replicate}
+use Rattle.std.proofs.lemmas.List.{length-replicate, take_all}
 use Rattle.engine_rules.specs.EngineState.{EngineState}
 use Rattle.fuzzy_ckpt.specs.declared.point.Point.{Point}
 use Rattle.log_store.specs.Master.{SpellsMaster}
@@ -11,10 +12,11 @@ use Rattle.saved_files.specs.Folder.{Changes, Entries, FolderEntry, IsSame, abse
 use Rattle.saved_files.specs.Saved.{name_of}
 use Rattle.saved_files.specs.declared.saved_name.SavedName.TheVariants as saved
 use Rattle.database_files.specs.Closed.{SpellsNote}
-use Rattle.database_files.specs.Found.{AreFoundIn, IsCopyAt, IsFoundAt, SpellsManifest}
+use Rattle.database_files.specs.Found.{AreFoundIn, IsCopyAt, IsFoundAt, IsFoundIn, SpellsManifest}
 use Rattle.database_files.specs.declared.closed_note.ClosedNote.{ClosedNote}
 use Rattle.database_files.specs.declared.found_copies.CopyFile.{CopyFile}
-use Rattle.database_files.specs.DatabaseFolder.{AreOf, AreFirstOf, HasLength, HasLogBytes, HasLogOf, HasNoOtherVolume, IsVolume, IsWithoutLog, IsLogIn}
+use Rattle.log_records.specs.declared.limits.TheConstants.{HEADER_BYTES}
+use Rattle.database_files.specs.DatabaseFolder.{AreOf, AreFirstOf, HasHeadlessLog, HasLength, HasLogBytes, HasLogOf, HasNoOtherVolume, IsHeadless, IsHeadlessAt, IsVolume, IsWithoutLog, IsLogIn}
 use Rattle.database_opening.specs.Copies.{ids_unread}
 use Rattle.database_files.specs.Master.{IsUnnamed, TellsWrong}
 use Rattle.database_opening.specs.Opened.{Begins, BeginsAnew, GoesOnFromFile, HandsOn}
@@ -53,6 +55,50 @@ log_there None held log bytes is begins count = tt
 log_there (Some it) held log bytes is begins count =
     all_of (it (codes "log")) (held log.file) log.len bytes is.0 is.1 begins count
 
+-- ---- a log that has no header
+
+-- bytes that begin with as many zeros as they have are these
+zeros_alone : (n : ℕ) (zeros all : List ℕ) → length zeros ≡ n → length all ≡ n → zeros ≡ take (length zeros) all
+    → all ≡ zeros
+zeros_alone n zeros all many long first =
+    sym (first ∙ ap (λ (k : ℕ). take k all) many ∙ take_all n all (omega (arith, long)))
+
+headless_at : (there : FolderEntry) (held : Option (List ℕ)) (len : ℕ) → AreOf there held → HasLength there len
+    → IsHeadless held len → IsHeadlessAt there
+unfolding IsNothing value_of
+headless_at absent held len are long none = tt
+headless_at unsynced held len are long none = tt
+headless_at (stored all) None len are long none = absurd (subst IsNothing are tt)
+headless_at (stored all) (Some given) len are long none = elim none [
+  | inl few ↦ inl (omega (arith, few, long))
+  | inr zeros ↦
+      let same : given ≡ all = ap value_of are in
+      let none_set : List ℕ = replicate HEADER_BYTES 0 in
+      inr (zeros_alone HEADER_BYTES none_set all (length-replicate {A = ℕ} HEADER_BYTES 0)
+      (sym long ∙ zeros.0) (zeros.1 ∙ ap (take (length none_set)) same))
+]
+
+pub headless_there : {L : Type 0} (entries : Option Entries) (held : L → Option (List ℕ)) (log : LogFile L)
+    → IsLogIn entries held log → IsHeadless (held log.file) log.len → HasHeadlessLog entries
+headless_there None held log is none = tt
+headless_there (Some it) held log is none = headless_at (it (codes "log")) (held log.file) log.len is.0 is.1 none
+
+pub headless_few : (held : Option (List ℕ)) (len : ℕ) → IsHeadless held len → len ≤ HEADER_BYTES
+headless_few held len none = elim none [
+  | inl few ↦ omega (arith, few)
+  | inr zeros ↦ omega (arith, zeros.0)
+]
+
+-- a new one is made, where the log has no header
+pub headless_anew : {L T E : Type 0} (r : Result T E) (first : T → FirstLine) (state : T → EngineState)
+    (entries : Option Entries) (held : L → Option (List ℕ)) (log : LogFile L) (is_salvage : Bool) (ids : List ℕ)
+    (told : Option ℕ) (frames : ℕ) → IsLogIn entries held log → IsHeadless (held log.file) log.len
+    → IfOk r (λ it. BeginsAnew entries told frames (first it) (state it))
+    → IfOk r (λ it. Begins entries is_salvage (Some log.len) ids told frames (first it) (state it))
+headless_anew (Ok it) first state entries held log is_salvage ids told frames there none new =
+    inl (there.1, headless_few (held log.file) log.len none, headless_there entries held log there none, new)
+headless_anew (Err why) first state entries held log is_salvage ids told frames there none new = tt
+
 -- ---- a folder that is left as it was
 
 no_log_same : (old mid : Option Entries) → Changes IsSame old mid → IsWithoutLog mid → IsWithoutLog old
@@ -65,7 +111,7 @@ log_of_same None mid len same long = tt
 log_of_same (Some old) None len same long = absurd same
 log_of_same (Some old) (Some mid) len same long = subst (λ (e : FolderEntry). HasLength e len) (same (codes "log")) long
 
-log_same : (old mid : Option Entries) (bytes : List ℕ) → Changes IsSame old mid → HasLogBytes mid bytes → HasLogBytes old bytes
+pub log_same : (old mid : Option Entries) (bytes : List ℕ) → Changes IsSame old mid → HasLogBytes mid bytes → HasLogBytes old bytes
 log_same None mid bytes same there = tt
 log_same (Some old) None bytes same there = absurd same
 log_same (Some old) (Some mid) bytes same there =
@@ -85,6 +131,11 @@ found_same (Some old) (Some mid) closing manifest master files same found = reco
       subst (λ (e : FolderEntry). IsCopyAt e file.found) (same (name_of (saved.Copy file.id))) (found.copied k d lt);
   all = λ id fits had. found.all id fits (λ none. had (sym (same (name_of (saved.Copy id))) ∙ none));
 }
+
+headless_same : (old mid : Option Entries) → Changes IsSame old mid → HasHeadlessLog mid → HasHeadlessLog old
+headless_same None mid same none = tt
+headless_same (Some old) None same none = absurd same
+headless_same (Some old) (Some mid) same none = subst IsHeadlessAt (same (codes "log")) none
 
 volume_same : (old mid : Option Entries) → Changes IsSame old mid → HasNoOtherVolume mid → HasNoOtherVolume old
 volume_same None mid same none = tt
@@ -146,7 +197,7 @@ pub begins_same : (old mid : Option Entries) (is_salvage : Bool) (log : Option �
 begins_same old mid is_salvage None ids told frames first engine same begins =
     (no_log_same old mid same begins.0, anew_same old mid told frames first engine same begins.1)
 begins_same old mid is_salvage (Some len) ids told frames first engine same begins = elim begins [
-  | inl new ↦ inl (log_of_same old mid len same new.0, new.1, anew_same old mid told frames first engine same new.2)
+  | inl new ↦ inl (log_of_same old mid len same new.0, new.1, headless_same old mid same new.2, anew_same old mid told frames first engine same new.3)
   | inr it ↦ inr (goes_on_same old mid is_salvage len ids told frames first engine same it)
 ]
 
@@ -204,3 +255,26 @@ pub handed_in : {T E : Type 0} (r : Result T E) (first : T → FirstLine) (state
 handed_in (Ok it) first state unread point is_wrong old mid is_salvage same on =
     handed_same old mid is_salvage (first it) (state it) (unread it) (point it) (is_wrong it) same on
 handed_in (Err why) first state unread point is_wrong old mid is_salvage same on = tt
+
+-- ---- the manifest that is handed on
+
+-- the manifest that was found beside the log
+pub manifest_found : (entries : Option Entries) (note : Option ClosedNote) (manifest : Option Listed)
+    (master : Option Master) (files : List CopyFile) → AreFoundIn entries note manifest master files
+    → IsFoundIn SpellsManifest entries (codes "manifest") manifest
+manifest_found None closing manifest master files found = tt
+manifest_found (Some there) closing manifest master files found = found.listed
+
+manifest_same : (old mid : Option Entries) (manifest : Option Listed) → Changes IsSame old mid
+    → IsFoundIn SpellsManifest mid (codes "manifest") manifest → IsFoundIn SpellsManifest old (codes "manifest") manifest
+manifest_same None mid manifest same found = tt
+manifest_same (Some old) None manifest same found = absurd same
+manifest_same (Some old) (Some mid) manifest same found =
+    subst (λ (e : FolderEntry). IsFoundAt SpellsManifest e manifest) (same (codes "manifest")) found
+
+-- so it is behind a claim that left the folder as it was
+pub manifest_in : {T E : Type 0} (r : Result T E) (manifest : T → Option Listed) (old mid : Option Entries)
+    → Changes IsSame old mid → IfOk r (λ it. IsFoundIn SpellsManifest mid (codes "manifest") (manifest it))
+    → IfOk r (λ it. IsFoundIn SpellsManifest old (codes "manifest") (manifest it))
+manifest_in (Ok it) manifest old mid same found = manifest_same old mid (manifest it) same found
+manifest_in (Err why) manifest old mid same found = tt

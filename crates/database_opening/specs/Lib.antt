@@ -1,3 +1,4 @@
 pub mod Copies
 pub mod FirstLine
 pub mod Opened
+pub mod Ready

@@ -14,7 +14,7 @@ use Rattle.log_store.specs.declared.master.Master.{Master}
 use Rattle.manifest.specs.Entries.{Listed}
 use Rattle.saved_files.specs.Folder.{Entries}
 use Rattle.database_opening.specs.Copies.{TakesUp, ids_unread}
-use Rattle.database_files.specs.DatabaseFolder.{HasLogBytes, HasLogOf, HasNoOtherVolume}
+use Rattle.database_files.specs.DatabaseFolder.{HasHeadlessLog, HasLogBytes, HasLogOf, HasNoOtherVolume}
 use Rattle.database_files.specs.DatabaseFolder.{IsWithoutLog}
 use Rattle.database_files.specs.Evidence.{LacksNothing}
 use Rattle.database_opening.specs.FirstLine.{told_of}
@@ -81,15 +81,16 @@ abbrev pub len_of : {L : Type 0} → Option (LogFile L) → Option ℕ
 len_of None = None
 len_of (Some log) = Some log.len
 
--- a database is new where no log stands in its folder, or one that has no more bytes than a header,
--- and nothing else there tells of one; else it goes on from the log that stands there, from all of
+-- a database is new where no log stands in its folder, or one that has fewer bytes than a header, or
+-- just so many zeros, and nothing else there tells of one; else it goes on from the log that stands there, from all of
 -- its bytes, with the copies of these ids; its first line tells which it is
 abbrev pub Begins : Option Entries → Bool → Option ℕ → List ℕ → Option ℕ → ℕ → FirstLine
     → EngineState → Type 0
 Begins entries is_salvage None ids told frames first engine =
     IsWithoutLog entries × BeginsAnew entries told frames first engine
 Begins entries is_salvage (Some len) ids told frames first engine =
-    (HasLogOf entries len × (len ≤ HEADER_BYTES) × BeginsAnew entries told frames first engine)
+    (HasLogOf entries len × (len ≤ HEADER_BYTES) × HasHeadlessLog entries
+    × BeginsAnew entries told frames first engine)
     ⊎ GoesOnFromFile entries is_salvage len ids told frames first engine
 
 -- what a session is handed of a database that goes on: the ids of the copies that

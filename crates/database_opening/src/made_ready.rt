@@ -14,6 +14,7 @@ ghost use Rattle.database_files.specs.LeftOut.{behind};
 ghost use Rattle.database_files.specs.MovedAside.{AreSetAside, IsSetAsideAt, KeepsOrPutsAside};
 ghost use Rattle.database_files.specs.MovedAside.{file_name_of};
 ghost use Rattle.database_files.specs.Standing.{KeepsFiles};
+ghost use Rattle.database_opening.specs.Ready.{IsCalledOnceReady};
 
 use crate::left_out::put_aside;
 use crate::new_database::code_of;
@@ -111,6 +112,9 @@ pub(crate) fn make_log_ready<F: DatabaseFolder>(
     // No note of a closing stands there from now on.
     ensures gone { OnOk result (Tells (F.entries folder.old) CLOSED.now there.now.has_closed
         → IsWithoutNote (F.entries folder.new)) }
+    // However it ends, nothing is asked of the log's file before both are so.
+    ensures ready { Tells (F.entries folder.old) CLOSED.now there.now.has_closed
+        → IsCalledOnceReady remains.old.log remains.new.log.device (F.entries folder.new) }
     // What the log's file gave is taken at its word only where the last closing vouches for it.
     ensures vouched { OnOk result ((remains.new.log.device.is_read ≡ false)
         ⊎ IsVouched remains.old.others.note (end_of remains.old.log.front.log)) }

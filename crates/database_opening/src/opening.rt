@@ -13,6 +13,7 @@ ghost use Rattle.database_files.specs.Found.{IsFoundIn, IsInventoryOf, SpellsMan
 ghost use Rattle.database_files.specs.MovedAside.{KeepsOrPutsAside};
 ghost use Rattle.database_opening.specs.Opened.{Begins, BeginsAnew, HandsOn, len_of};
 ghost use Rattle.database_files.specs.Found.{HasNoOrphan};
+ghost use Rattle.database_files.specs.Kept.{IsNameIn};
 ghost use Rattle.database_files.specs.Refused.{IsRefusal};
 ghost use Rattle.database_files.specs.Standing.{KeepsFiles};
 
@@ -43,6 +44,10 @@ pub fn opened<F: DatabaseFolder>(
         it.first it.engine.state) }
     ensures handed { IfOk result (λ it. HandsOn (F.entries folder.old) call.now.salvage it.first
         it.engine.state it.unread.items it.point it.is_master_wrong) }
+    // It has the name that the manifest there says, and is handed that manifest.
+    ensures named { IfOk result (λ it. IsNameIn it.manifest it.database.0) }
+    ensures manifest { IfOk result (λ it.
+        IsFoundIn SpellsManifest (F.entries folder.old) MANIFEST.now it.manifest) }
     ensures claimed { IfOk result (λ _. F.is_claimed folder.new) }
     // However it ends, each file is left as it was, but for the log, the volume, the note of a
     // closing and what is unfinished, unless what is left of a log is to be opened.
@@ -90,6 +95,10 @@ fn open_from<F: DatabaseFolder>(
         it.engine.state it.unread.items it.point it.is_master_wrong) }
     ensures refused { IfErr result (λ fault. IsRefusal fault
         → Changes IsSame (F.entries folder.old) (F.entries folder.new)) }
+    // It has the name that the manifest there says, and is handed that manifest.
+    ensures named { IfOk result (λ it. IsNameIn it.manifest it.database.0) }
+    ensures manifest { IfOk result (λ it.
+        IsFoundIn SpellsManifest (F.entries folder.old) MANIFEST.now it.manifest) }
     ensures claimed { F.is_claimed folder.new }
 {
     let Some(log) = log else {
@@ -124,6 +133,10 @@ fn begun<F: DatabaseFolder>(
     ensures stored { IfOk result (λ _. F.is_stored folder.new) }
     ensures refused { IfErr result (λ fault. IsRefusal fault
         → Changes IsSame (F.entries folder.old) (F.entries folder.new)) }
+    // It has the name that the manifest there says, and is handed that manifest.
+    ensures named { IfOk result (λ it. IsNameIn it.manifest it.database.0) }
+    ensures manifest { IfOk result (λ it.
+        IsFoundIn SpellsManifest (F.entries folder.old) MANIFEST.now it.manifest) }
     ensures claimed { F.is_claimed folder.new }
 {
     let alloc = diagnostics.alloc;

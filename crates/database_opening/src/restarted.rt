@@ -2,6 +2,7 @@
 
 ghost use Rattle.std.specs.Prelude.{◌≡◌, ◌≢◌, ◌⊎◌, ◌↔◌, [], false, IfErr, IfOk, IfSome};
 ghost use Rattle.std.specs.Prelude.{IsTrue, None, OnOk, length, map, not};
+ghost use Rattle.std.specs.List.{All};
 ghost use Rattle.std.specs.List.Sorted.{IsNonDecreasing};
 ghost use Rattle.buffer_pool.specs.Pool.{IsFrameCount};
 ghost use Rattle.engine_restart.specs.LogFile.{LastsOnFile};
@@ -18,11 +19,14 @@ ghost use Rattle.saved_files.specs.Folder.{Changes, IsSame, KeepsOthers};
 ghost use Rattle.database_files.specs.Evidence.{LacksNothing};
 ghost use Rattle.database_opening.specs.FirstLine.{told_of};
 ghost use Rattle.database_files.specs.Found.{AreFoundIn, IsFoundIn, IsInventoryOf};
+ghost use Rattle.database_files.specs.Found.{IsUnreadOnceTried, SpellsManifest};
+ghost use Rattle.database_files.specs.Kept.{IsNameIn};
 ghost use Rattle.database_files.specs.LeftOut.{IsWorthKeeping, WasKept};
 ghost use Rattle.database_files.specs.LeftOut.{behind};
 ghost use Rattle.database_files.specs.Master.{IsOfRecords, IsUnnamed, is_absent, spelled};
 ghost use Rattle.database_files.specs.MovedAside.{KeepsOrPutsAside};
 ghost use Rattle.database_opening.specs.Opened.{GoesOnFromFile, GoesOnWith, HandsOn};
+ghost use Rattle.database_opening.specs.Ready.{IsCalledOnceReady};
 ghost use Rattle.database_files.specs.Refused.{IsLost, IsRefusal};
 ghost use Rattle.database_files.specs.Standing.{KeepsFiles};
 ghost use Rattle.database_opening.specs.declared.first_line.FirstLine.TheVariants as line;
@@ -36,8 +40,8 @@ use crate::volume_file::{check_volume, volume_of};
 use aries_core::Engine;
 use database_files::{
     CLOSED, ChangeFault, ClosedNote, CopyFile, DatabaseFolder, Diagnostics, ForcedEndEvidence,
-    FoundMaster, Inventory, LogFile, OpenFault, Place, VOLUME, found_in, log_line, name_for,
-    read_copies, read_manifest, read_master, read_note,
+    FoundMaster, Inventory, LogFile, MANIFEST, OpenFault, Place, VOLUME, found_in, log_line,
+    name_for, read_copies, read_manifest, read_master, read_note,
 };
 use engine_restart::{FoundLog, Restarted, restart, store_of};
 use file_devices::FileLog;
@@ -107,6 +111,10 @@ pub(crate) fn reopen<F: DatabaseFolder>(
     ensures gone { OnOk result (IsWithoutNote (F.entries folder.new)) }
     ensures handed { IfOk result (λ it. HandsOn (F.entries folder.old) call.now.salvage it.first
         it.engine.state it.unread.items it.point it.is_master_wrong) }
+    // It has the name that its manifest says, and is handed that manifest.
+    ensures named { IfOk result (λ it. IsNameIn it.manifest it.database.0) }
+    ensures manifest { IfOk result (λ it.
+        IsFoundIn SpellsManifest (F.entries folder.old) MANIFEST.now it.manifest) }
     ensures refused { IfErr result (λ fault. IsRefusal fault
         → Changes IsSame (F.entries folder.old) (F.entries folder.new)) }
     ensures claimed { F.is_claimed folder.new }
@@ -139,6 +147,8 @@ fn find<F: DatabaseFolder>(
     ensures others { IfOk result (λ it. AreFoundIn (F.entries folder.now) it.others.note
         it.others.manifest (spelled it.others.master) it.others.copies.items) }
     ensures absent { IfOk result (λ it. is_absent it.others.master ≡ not there.now.has_master) }
+    ensures tried { IfOk result (λ it.
+        All (IsUnreadOnceTried (F.was_asked folder.now)) it.others.copies.items) }
 {
     let log = found_in::<F>(diagnostics.alloc, log)?;
     match find_others(diagnostics, folder, there) {
@@ -161,6 +171,9 @@ pub fn find_others<F: DatabaseFolder>(
         (spelled it.master) it.copies.items) }
     // A master record that spells nothing is not passed over.
     ensures absent { IfOk result (λ it. is_absent it.master ≡ not there.now.has_master) }
+    // A copy is told to be unread only once its file was asked for.
+    ensures tried { IfOk result (λ it.
+        All (IsUnreadOnceTried (F.was_asked folder.now)) it.copies.items) }
 {
     let alloc = diagnostics.alloc;
     let note = note_there(diagnostics, folder, there)?;
@@ -229,6 +242,10 @@ fn prepare<F: DatabaseFolder>(
     // and is gone from the log's for certain, before any record is stored there.
     ensures alone { OnOk result (remains.old.log.front.cut ≢ None
         → bytes_of remains.new.log.device ≡ log_bytes remains.new.log.front.log) }
+    // However it ends, nothing is asked of the log's file before what stood behind the log is kept,
+    // and the note of the last closing is gone.
+    ensures ready { IsCalledOnceReady remains.old.log remains.new.log.device
+        (F.entries folder.new) }
     // What the log's file gave is taken at its word only where the last closing vouches for it.
     ensures vouched { OnOk result ((remains.new.log.device.is_read ≡ false)
         ⊎ IsVouched remains.old.others.note (end_of remains.old.log.front.log)) }
@@ -356,6 +373,8 @@ fn go_on<F: DatabaseFolder>(
     // What stands there instead is to be moved aside.
     ensures wrong { IfOk result (λ it.
         IsTrue it.is_master_wrong ↔ (¬ IsOfRecords found.front.log.records beside.0.master)) }
+    ensures named { IfOk result (λ it. it.database ≡ beside.1) }
+    ensures manifest { IfOk result (λ it. it.manifest ≡ beside.0.manifest) }
     ensures others { Changes (KeepsOthers VOLUME.now)
         (F.entries folder.old) (F.entries folder.new) }
     ensures claimed { F.is_claimed folder.new }

@@ -191,6 +191,8 @@ impl<'a, S: Start> DatabaseFolder for SystemDatabase<'a, S> {
 
     ghost held = { λ _. None };
 
+    ghost was_asked = { λ _ _. Unit {0} };
+
     fn claim_or_wait(&mut self) -> Result<(), ClaimFault> {
         self.folder.claim_soon()?;
         match self.identity() {

@@ -200,6 +200,8 @@ impl<'a> DatabaseFolder for SimulatedFolder<'a> {
 
     ghost held = { λ _. None };
 
+    ghost was_asked = { λ _ _. Unit {0} };
+
     fn claim_or_wait(&mut self) -> Result<(), ClaimFault> {
         Ok(())
     }

@@ -1,4 +1,4 @@
-use Rattle.database_opening.proofs.LogThere.{handed_in, opened_in}
+use Rattle.database_opening.proofs.LogThere.{handed_in, manifest_in, opened_in}
 use Rattle.database_opening.specs.Opened.{len_of}
 use Rattle.database_files.specs.Refused.{IsRefusal}
 use Rattle.database_files.proofs.Public.{refused_in}
@@ -38,3 +38,8 @@ returns-clause-refused g c =
     refused_in c.open_from.result IsRefusal (g.F.Folder.entries c.args.folder.now)
     (g.F.Folder.entries c.claim_or_wait.new.self) (g.F.Folder.entries c.open_from.new.folder)
     c.claim_or_wait.ensures.same c.open_from.ensures.refused
+
+pub returns-clause-manifest : goal.returns-clause-manifest
+returns-clause-manifest g c =
+    manifest_in c.open_from.result (λ it. it.manifest) (g.F.Folder.entries c.args.folder.now)
+    (g.F.Folder.entries c.claim_or_wait.new.self) c.claim_or_wait.ensures.same c.open_from.ensures.manifest

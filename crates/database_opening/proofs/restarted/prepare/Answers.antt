@@ -56,3 +56,21 @@ returns-in_err-make_log_ready-clause-stays g c =
     let last = g.F.Folder.entries c.make_log_ready.new.folder in
     puts_more first cleared last (puts_none first cleared (keeps_finished first cleared c.clear.ensures.kept))
     (puts_more cleared set_aside last c.set_aside_claimants.ensures.stays (puts_none set_aside last c.make_log_ready.ensures.files))
+
+pub returns-clause-ready : goal.returns-clause-ready
+returns-clause-ready g c =
+    let first = g.F.Folder.entries c.args.folder.now in
+    let cleared = g.F.Folder.entries c.clear.new.folder in
+    let set_aside = g.F.Folder.entries c.set_aside_claimants.new.folder in
+    c.make_log_ready.ensures.ready (tells_still first set_aside c.args.there.now.has_closed
+    (note_stays first cleared set_aside (note_finished first cleared c.clear.ensures.kept) c.set_aside_claimants.ensures.note)
+    (tells_closed first c.args.there.now c.requires.inventory))
+
+pub returns-in_err-make_log_ready-clause-ready : goal.returns-in_err-make_log_ready-clause-ready
+returns-in_err-make_log_ready-clause-ready g c =
+    let first = g.F.Folder.entries c.args.folder.now in
+    let cleared = g.F.Folder.entries c.clear.new.folder in
+    let set_aside = g.F.Folder.entries c.set_aside_claimants.new.folder in
+    c.make_log_ready.ensures.ready (tells_still first set_aside c.args.there.now.has_closed
+    (note_stays first cleared set_aside (note_finished first cleared c.clear.ensures.kept) c.set_aside_claimants.ensures.note)
+    (tells_closed first c.args.there.now c.requires.inventory))

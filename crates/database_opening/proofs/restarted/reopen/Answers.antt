@@ -1,9 +1,14 @@
-use Rattle.std.proofs.Common.{◌∙◌, ◌↔◌, ap, IsTrue, subst}
+use Rattle.std.proofs.Common.{◌∙◌, ◌↔◌, ap, IsTrue, subst, sym}
+use Rattle.std.specs.Prelude.{codes, Option}
+use Rattle.manifest.specs.Entries.{Listed}
+use Rattle.manifest.specs.declared.sum.DatabaseName.{DatabaseName}
+use Rattle.database_files.specs.Found.{IsFoundIn, SpellsManifest}
+use Rattle.database_files.specs.Kept.{IsNameIn}
 use Rattle.log_records.specs.Log.{Log}
 use Rattle.database_files.specs.Master.{IsOfRecords, IsUnnamed, spelled}
 use Rattle.database_opening.specs.declared.restarted.Others.{Others}
 use Rattle.database_opening.specs.Copies.{ids_unread}
-use Rattle.database_opening.proofs.LogThere.{goes_on_handed}
+use Rattle.database_opening.proofs.LogThere.{goes_on_handed, manifest_found}
 use Rattle.database_files.proofs.Public.{tells_master}
 use Rattle.database_files.proofs.Public.{wrong_in}
 use Rattle.database_files.proofs.Public.{note_beside_volume, puts_more, puts_none, still_without}
@@ -74,3 +79,19 @@ returns-in_err-opened-clause-stays g c =
     let last = g.F.Folder.entries c.go_on.new.folder in
     puts_more (g.F.Folder.entries c.args.folder.now) prepared last c.prepare.ensures.stays
     (puts_none prepared last (keeps_volume prepared last c.go_on.ensures.others))
+
+pub returns-clause-manifest : goal.returns-clause-manifest
+returns-clause-manifest g c =
+    let entries = g.F.Folder.entries c.args.folder.now in
+    let found = c.in_ok-remains.remains.others in
+    subst (λ (it : Option Listed). IsFoundIn SpellsManifest entries (codes "manifest") it)
+    (sym (c.in_ok-opened.ensures.manifest ∙ ap (λ (o : Others). o.manifest) c.prepare.ensures.others))
+    (manifest_found entries found.note found.manifest (spelled found.master) found.copies.items
+    c.in_ok-remains.ensures.others)
+
+pub returns-clause-named : goal.returns-clause-named
+returns-clause-named g c =
+    subst (λ (name : DatabaseName). IsNameIn c.in_ok-opened.opened.manifest name.0) (sym c.in_ok-opened.ensures.named)
+    (subst (λ (it : Option Listed). IsNameIn it c.in_ok-database.database.0)
+    (sym (c.in_ok-opened.ensures.manifest ∙ ap (λ (o : Others). o.manifest) c.prepare.ensures.others))
+    c.in_ok-database.ensures)
