@@ -215,6 +215,7 @@ run_own_checks() {
     check operator "$program" python3 -- python3 -m checks.operator "$program"
     check outputs "$program" python3 -- python3 -m checks.outputs "$program"
     check output_calls "$program" python3 rustc -- preload file_calls checks.output_calls "$program"
+    check call_order "$program" python3 strace -- python3 -m checks.call_order "$program"
     check manifests "$program" python3 -- python3 -m checks.manifests "$program"
     check log_out "$program" python3 -- python3 -m checks.log_out "$program"
     check until "$program" python3 -- python3 -m checks.until "$program"
