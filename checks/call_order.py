@@ -30,7 +30,8 @@ from pathlib import Path
 from typing import NamedTuple
 
 from checks.bank_files import memory_place
-from checks.call_rules import CHANGES, RULES, Seen
+from checks.call_rules import RULES
+from checks.call_seen import CHANGES, Seen
 from checks.call_trace import MOST_SECONDS, Call, Failure, run
 from checks.unsaved import script_of, text_of
 
