@@ -1,21 +1,29 @@
-"""Copies and restores the largest volume, and looks at the memory that the smallest one takes.
+"""Copies and restores the largest volume, and looks at the memory that commands take.
 
 usage: python3 -m checks.sizes PROGRAM LIBRARY
 
-LIBRARY is most_memory.rs, built. A volume of 65,536 pages gets a full copy and an incremental one, of which every page is decided. Their files are
-audited and restored, and a folder is opened that has such a volume: a body that gives up at many pages would be found.
-Before that each command is run on a volume of one page, and may ask for no more than so much memory at one time: a body
-that makes room for the largest volume, or for the longest log, would be found, though it never writes there. `run` and
-`open` may make the room that DECISIONS.md tells of, and have no more of it in memory than they use.
+LIBRARY is most_memory.rs, built. A volume of 65,536 pages gets a full copy and an incremental one, of which every page is
+decided. Their files are audited and restored, and a folder is opened that has such a volume: a body that gives up at many
+pages would be found. Before that it is looked how much memory each command asks for at one time, whether it writes there
+or not, and how much of it the process has:
+
+- On a volume of one page: a body that makes room for the largest volume, or for the longest log, would be found. The
+  commands that have an engine may make the room that DECISIONS.md tells of, and have no more of it in memory than they use.
+- Where an archive of one page says that it has 65,536, or is of a volume of so many: no room is made for pages that do not
+  come.
+- Where a file of a folder has 256 MiB: no more of it is read than the longest log has twice.
+- On a volume of 65,536 pages of which one has changed: those that read the log have the volume once in memory.
 """
 
 import os
+import shutil
 import subprocess
 import sys
 import tempfile
 from pathlib import Path
+from typing import NamedTuple
 
-from model.recovery import encode_pages
+from model.recovery import ARCHIVE, FULL, INCREMENTAL, encode_pages
 from model.scripts import run as run_model
 
 MOST_PAGES = 65_536
@@ -27,9 +35,13 @@ SMALL = 1_024
 # What the store in memory and the pool of an engine make room for as it begins, in KiB: the bytes of each page, and 128
 # more for its states, and for two entries of the map in which its frame is found.
 MADE_AHEAD = 65_536 * (512 + 128) // 1_024
-ENGINES = ("run", "open")
+ENGINES = ("run", "open", "backup", "renew")
 # How many KiB a process may have in memory. It has some 2,000 with its libraries.
 IN_MEMORY = 8_192
+# Of a file that is longer than any file of a database as many KiB are read as the longest log has twice.
+LONG, READ_AT_MOST = 2**28, 2 * 65_536 + SMALL
+# What is kept of each page while a log is read: its bytes, and 64 more.
+ONE_VOLUME = 65_536 * (512 + 64) // 1_024 + SMALL
 
 
 class Failure(Exception):
@@ -69,13 +81,13 @@ def largest(program, folder):
     """The largest volume, in memory and in files."""
     script = text_of([*life(MOST_PAGES, CHANGED), "restore 2 all"])
     model = run_model(script, MOST_PAGES)
-    (folder / "saved").mkdir()
-    said = answer([program, "run", "--pages", str(MOST_PAGES), "--save", "saved"], folder, script)
+    saved = folder / "saved-all"
+    saved.mkdir()
+    said = answer([program, "run", "--pages", str(MOST_PAGES), "--save", "saved-all"], folder, script)
     same("the replies", said, model.answer.output)
     if f"sealed {MOST_PAGES}\n".encode() not in said or f"sealed {len(CHANGED)}\n".encode() not in said:
         raise Failure("the copies have not the pages that they should have")
     volume = encode_pages(model.engine.restore(2))
-    saved = folder / "saved"
     for name, wanted in model.files.items():
         same(name, (saved / name).read_bytes(), wanted)
     same("the volume", answer([program, "restore", "log", "master", "copy-1", "copy-2"], saved), volume)
@@ -92,56 +104,139 @@ def largest(program, folder):
     same("the volume of an open database", (folder / "open" / "volume").read_bytes(), volume)
 
 
-def most_memory(program, library, folder, name, words, given, wanted):
-    """How many KiB a command has of its heap at most, and how many in memory. It prints what is wanted."""
-    told, telling = os.pipe()
-    variables = os.environ | {"LD_PRELOAD": library, "MEMORY_REPORT": str(telling)}
-    ran = subprocess.run([program, *words], cwd=folder, input=given, capture_output=True, check=False, env=variables,
-                         pass_fds=(telling,))
-    os.close(telling)
-    with open(told, "rb") as report:
-        counts = report.read().split()
-    if ran.returncode or not counts or wanted not in ran.stdout:
-        raise Failure(f"{name} on one page: status {ran.returncode}: {ran.stdout[-200:]!r} {ran.stderr[:200]!r}")
-    return (int(counts[0]) + 1023) // 1024, int(counts[1])
+class Memory(NamedTuple):
+    """How many KiB of its heap a command had at most at one time, how many the process had in memory, and how it ended."""
+
+    asked: int
+    there: int
+    done: subprocess.CompletedProcess
 
 
-def small(program, library, folder):
-    """How many KiB each command asks for on a volume of one page."""
-    calls_of_engine = [*life(1, (0,)), "repair 1 0"]
-    for name in ("saved-one", "one"):
-        (folder / name).mkdir()
-    calls = {
-        "run": (["run", "--pages", "1", "--save", "saved-one"], text_of([*calls_of_engine, "restore 2 all"]), b"repaired"),
-        "redo": (["redo"], b"", b""),
-        "restore": (["restore", "saved-one/log", "saved-one/master", "saved-one/copy-1", "saved-one/copy-2"], b"", b""),
-        "audit": (["audit", "saved-one/log", "saved-one/copy-1", "saved-one/copy-2"], b"", b"sound"),
-        "show": (["show", "saved-one/log"], b"", b""),
-        "list": (["list", "saved-one"], b"", b""),
-        "open": (["open", "one", "--pages", "1"], text_of(calls_of_engine), b"repaired"),
-    }
-    used = {}
-    for name, (words, given, wanted) in calls.items():
-        if name == "redo":
-            given = (folder / "saved-one" / "log").read_bytes()
-        used[name], there = most_memory(program, library, folder, name, words, given, wanted)
-        most = SMALL + MADE_AHEAD * (name in ENGINES)
-        if used[name] > most or there > IN_MEMORY:
-            raise Failure(f"{name} on one page: it asks for {used[name]} KiB, and not at most {most}, and has {there} in"
-                          f" memory, and not at most {IN_MEMORY}")
-    if not any(used.values()):
+class Meter:
+    """Runs commands, and looks at the memory that they take."""
+
+    def __init__(self, program, library, folder):
+        self.program, self.library, self.folder, self.used = program, library, folder, {}
+
+    def run(self, words, given=b""):
+        told, telling = os.pipe()
+        variables = os.environ | {"LD_PRELOAD": self.library, "MEMORY_REPORT": str(telling)}
+        done = subprocess.run([self.program, *words], cwd=self.folder, input=given, capture_output=True, check=False,
+                              env=variables, pass_fds=(telling,))
+        os.close(telling)
+        with open(told, "rb") as report:
+            counts = report.read().split()
+        if not counts:
+            raise Failure(f"{words}: it tells no memory, status {done.returncode}: {done.stderr[:200]!r}")
+        return Memory((int(counts[0]) + 1023) // 1024, int(counts[1]), done)
+
+    def small(self, what, words, given=b"", status=0, wanted=b"", most=SMALL):
+        """A command whose input is small. It ends with this status, and prints what is wanted."""
+        used = self.run(words, given)
+        if used.done.returncode != status or wanted not in used.done.stdout:
+            raise Failure(f"{what}: status {used.done.returncode}: {used.done.stdout[-200:]!r} {used.done.stderr[:200]!r}")
+        self.see(what, used, most + MADE_AHEAD * (words[0] in ENGINES), IN_MEMORY)
+
+    def see(self, what, used, most, most_there):
+        self.used[what] = used.asked
+        if used.asked > most or used.there > most_there:
+            raise Failure(f"{what}: it asks for {used.asked} KiB, and not at most {most}, and has {used.there} in memory, and"
+                          f" not at most {most_there}")
+
+
+def smallest(meter):
+    """Each command, on a volume of one page."""
+    for name in ("saved", "one", "away"):
+        (meter.folder / name).mkdir()
+    calls, files = text_of([*life(1, (0,)), "repair 1 0"]), [f"saved/{name}" for name in ("log", "master", "copy-1", "copy-2")]
+    meter.small("run", ["run", "--pages", "1", "--save", "saved"], text_of([*life(1, (0,)), "repair 1 0", "restore 2 all"]),
+                wanted=b"repaired")
+    log = (meter.folder / "saved" / "log").read_bytes()
+    meter.small("redo", ["redo"], log)
+    meter.small("redo -o", ["redo", "-o", "redone"], log)
+    meter.small("restore", ["restore", *files])
+    meter.small("restore -o --log-out", ["restore", "-o", "restored", "--log-out", "after", *files])
+    meter.small("restore --until", ["restore", "--until", "128", *files[:3]])
+    meter.small("audit", ["audit", files[0], *files[2:]], wanted=b"sound")
+    meter.small("audit --all --master", ["audit", "--all", "--master", files[1], files[0], *files[2:]], wanted=b"sound")
+    for name in ("log", "master", "copy-1"):
+        meter.small(f"show {name}", ["show", f"saved/{name}"])
+    meter.small("list", ["list", "saved"], wanted=b"whole")
+    meter.small("open", ["open", "one", "--pages", "1"], calls, wanted=b"repaired")
+    meter.small("open again", ["open", "one"], b"copy on 2\n", wanted=b"copy 3")
+    meter.small("open --frames", ["open", "one", "--frames", "1"], b"checkpoint\n", wanted=b"point")
+    meter.small("restore of a folder", ["restore", "one", "-o", "restored"])
+    meter.small("backup --into", ["backup", "one", "--into", "away"], wanted=b"copy 4")
+    meter.small("backup --into again", ["backup", "one", "--into", "away"], wanted=b"copy 5")
+    meter.small("verify", ["verify", "away"], wanted=b"copy 5 sound")
+    meter.small("renew", ["renew", "one", "new"], wanted=b"copy 1")
+    if not any(meter.used.values()):
         raise Failure("no memory was seen: the program has an allocator of its own")
-    return used
+
+
+def promising(meter):
+    """An archive says that it has 65,536 pages, or that it took one of so many, and has one."""
+    header = list(ARCHIVE.unpack((meter.folder / "saved" / "copy-1").read_bytes()[:ARCHIVE.size]))
+    page = (meter.folder / "saved" / "copy-1").read_bytes()[ARCHIVE.size:]
+    for what, number, kind, parent, taken in (("a full copy", 1, FULL, 0, MOST_PAGES),
+                                              ("an incremental copy", 3, INCREMENTAL, 1, MOST_PAGES),
+                                              ("an incremental copy of one page", 3, INCREMENTAL, 1, 1)):
+        header[1:5], header[7] = (MOST_PAGES, number, kind, parent), taken
+        (meter.folder / "saved" / f"copy-{number}").write_bytes(ARCHIVE.pack(*header) + page)
+        chain = [f"saved/copy-{it}" for it in sorted({1, number})]
+        meter.small(f"restore of {what}", ["restore", "saved/log", "saved/master", *chain], status=1)
+        meter.small(f"audit of {what}", ["audit", "saved/log", *chain], status=1, wanted=b"E37")
+        meter.small(f"show of {what}", ["show", chain[-1]], status=0 if taken == 1 else 2)
+        meter.small(f"list of {what}", ["list", "saved"], status=2)
+        meter.small(f"restore of {what} in a folder", ["restore", "saved", "-o", "restored"], status=1)
+        shutil.copy(meter.folder / chain[-1], meter.folder / "one")
+        meter.small(f"open beside {what}", ["open", "one"], wanted=b"restarted")
+        shutil.copy(meter.folder / "away" / "copy-1", meter.folder / "saved")
+
+
+def long_files(meter):
+    """A file of a folder has 256 MiB, of which the disk has almost none."""
+    for name in ("log", "master", "manifest", "closed", "copy-1", "volume"):
+        for words in (["open", "big"], ["backup", "big"], ["renew", "big", "newer"], ["verify", "big"], ["list", "big"],
+                      ["restore", "big", "-o", "restored"], ["show", f"big/{name}"],
+                      ["audit", "--no-manifest", "big/log", "big/copy-1"],
+                      ["restore", "--no-manifest", "-o", "restored", "big/log", "big/master", "big/copy-1"]):
+            for folder in ("big", "newer"):
+                shutil.rmtree(meter.folder / folder, ignore_errors=True)
+            shutil.copytree(meter.folder / "new", meter.folder / "big")
+            os.truncate(meter.folder / "big" / name, LONG)
+            used = meter.run(words)
+            engine = MADE_AHEAD * (words[0] in ENGINES)
+            meter.see(f"{words[0]} where {name} has 256 MiB", used, READ_AT_MOST + engine, READ_AT_MOST // 2 + IN_MEMORY)
+
+
+def one_volume(meter):
+    """A volume of 65,536 pages, one of which has changed. Its log has few records."""
+    (meter.folder / "large").mkdir()
+    text = text_of(["begin", f"set 1 {MOST_PAGES - 1} 0 7", "commit 1", "checkpoint"])
+    meter.run(["open", "large", "--pages", str(MOST_PAGES)], text)
+    meter.run(["backup", "large"])
+    log = (meter.folder / "large" / "log").read_bytes()
+    for words, given in ((["redo"], log), (["show", "large/log"], b""), (["list", "large"], b""), (["verify", "large"], b""),
+                         (["audit", "large/log", "large/copy-1"], b""), (["restore", "large", "-o", "restored"], b"")):
+        used = meter.run(words, given)
+        if used.done.returncode:
+            raise Failure(f"{words}: status {used.done.returncode}: {used.done.stderr[:200]!r}")
+        meter.see(f"{words[0]} of 65,536 pages", used, ONE_VOLUME, ONE_VOLUME + IN_MEMORY)
 
 
 def main(program, library):
     program, library = str(Path(program).resolve()), str(Path(library).resolve())
     with tempfile.TemporaryDirectory() as name:
         folder = Path(name)
-        used = small(program, library, folder)
+        meter = Meter(program, library, folder)
+        smallest(meter)
+        told = ", ".join(f"{name} {count}" for name, count in meter.used.items())
+        promising(meter)
+        one_volume(meter)
+        long_files(meter)
         largest(program, folder)
-    told = ", ".join(f"{name} {count}" for name, count in used.items())
-    print(f"ok sizes: {MOST_PAGES} pages copied, restored and opened; KiB on one page: {told}")
+    print(f"ok sizes: {MOST_PAGES} pages copied, restored and opened; KiB of {len(meter.used)} commands, on one page: {told}")
 
 
 if __name__ == "__main__":

@@ -12,6 +12,7 @@ use database_files::{
     DatabaseFolder, LOG, LogFault, LogFile, RANDOM, Standing, VOLUME, VolumeFault,
 };
 use file_devices::{FileDisk, FileLog, FileStore};
+use log_records::MAX_LOG_BYTES;
 use page_store::MemStore;
 use saved_files::Folder;
 use sqlite_disk::Start;
@@ -26,6 +27,9 @@ use system_files::{ClaimFault, Noted, Notes, RetryWouldBlock, SystemFolder, Writ
 
 /// The number that the system has for a file or folder that is not what it was any more.
 const STALE: i32 = 116;
+
+/// The number that the system has for a file that is longer than it may be.
+const TOO_LARGE: i32 = 27;
 
 /// The folder of a database that is one of the system. Its files are made and renamed by their
 /// names, and only as long as its own name leads to the folder that was claimed.
@@ -109,6 +113,14 @@ impl<'a, S: Start> SystemDatabase<'a, S> {
     /// Where the file of this name stands.
     fn place_of(&self, name: &str) -> io::Result<PathBuf> {
         Ok(Path::new(self.name).join(self.rt.alloc(), name)?)
+    }
+
+    /// All bytes of the file at this place. No file of a database is longer than the longest log.
+    fn bytes_at(&self, place: &PathBuf) -> io::Result<Vec<u8>> {
+        if fs::metadata(self.rt, place.as_path())?.len() > MAX_LOG_BYTES as u64 {
+            return Err(io::Error::from_raw_os_error(TOO_LARGE));
+        }
+        fs::read(self.rt, place.as_path())
     }
 
     /// What stands at this place. A link is followed.
@@ -235,7 +247,7 @@ impl<'a, S: Start> DatabaseFolder for SystemDatabase<'a, S> {
     fn whole(&self, name: &str) -> io::Result<Standing<Vec<u8>>> {
         let place = self.place_of(name)?;
         match self.standing(&place)? {
-            Standing::File(()) => Ok(Standing::File(fs::read(self.rt, place.as_path())?)),
+            Standing::File(()) => Ok(Standing::File(self.bytes_at(&place)?)),
             Standing::NotAFile => Ok(Standing::NotAFile),
             Standing::Absent => Ok(Standing::Absent),
         }
