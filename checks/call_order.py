@@ -1,6 +1,7 @@
 """Has strace note the calls of the system that commands make, and holds their order against rules.
 
 usage: python3 -m checks.call_order PROGRAM
+       python3 -m checks.call_order --can       ends with status 0 if strace is there, and may trace a program
 
 The commands are those that change files: `open` of a new folder, of one that was closed, killed, or lacks what was forced;
 `backup`, also into a second folder; `renew`; `run --save`; and `redo` and `restore` with `-o` and `--log-out`. Those that
@@ -294,7 +295,16 @@ def check_locked(checker, case):
     checker.counts["locked"] += 1
 
 
+def can_trace():
+    try:
+        return subprocess.run(["strace", "-o", os.devnull, "true"], capture_output=True).returncode == 0
+    except OSError:
+        return False
+
+
 def main(arguments):
+    if arguments == ["--can"]:
+        sys.exit(0 if can_trace() else 1)
     try:
         if len(arguments) != 1:
             raise Failure("usage: python3 -m checks.call_order PROGRAM")
