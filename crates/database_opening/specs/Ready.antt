@@ -1,5 +1,5 @@
 -- A folder that is made ready before its log's device is called.
-use Rattle.std.specs.Prelude.{ℕ, ◌≡◌, ◌≢◌, ◌⊎◌, List, None, Option}
+use Rattle.std.specs.Prelude.{◌≡◌, ◌≢◌, ◌⊎◌, None, Option}
 use Rattle.engine_restart.specs.declared.log_file.FoundLog.{FoundLog}
 use Rattle.saved_files.specs.Folder.{Entries}
 use Rattle.database_files.specs.Closed.{IsWithoutNote}

@@ -1,6 +1,6 @@
-//! The bytes behind a log's front, which are put aside before the log is cut there.
+//! Bytes that are put aside: those behind a log's front, before the log is cut there, and a volume.
 
-ghost use Rattle.std.specs.Prelude.{◌≡◌, ◌≢◌, ◌↔◌, ◌++◌, IfOk, IsTrue, OnOk, codes, decimal};
+ghost use Rattle.std.specs.Prelude.{◌≡◌, ◌≢◌, ◌↔◌, IfOk, IsTrue, OnOk, codes};
 ghost use Rattle.std.specs.String.{string_bytes};
 ghost use Rattle.std.specs.Io.KnownBytes.{Appends};
 ghost use Rattle.saved_files.specs.FileFault.{Leaves};
@@ -20,7 +20,19 @@ use std::io::Write;
 /// How many files of bytes that were left out may stand in a folder.
 const MOST_LEFT_OUT: u32 = 1_000;
 
-/// Bytes that stood behind a log.
+/// Bytes of an old volume, before a number.
+const VOLUME_LEFT_OUT: &str = "volume.left-out-";
+
+/// Where bytes that are put aside stood.
+#[derive(Clone, Copy)]
+pub(crate) enum Origin {
+    /// Behind a log's front.
+    Log,
+    /// They are the whole of a volume.
+    Volume,
+}
+
+/// Bytes that are left out.
 #[derive(Drop)]
 struct LeftOut<'a> {
     bytes: &'a [u8],
@@ -68,7 +80,25 @@ pub(crate) fn put_aside<F: DatabaseFolder>(
     if !is_worth_keeping(bytes) {
         return Ok(());
     }
-    let name = free_name(diagnostics.alloc, folder)?;
+    keep_bytes(diagnostics, folder, Origin::Log, bytes)
+}
+
+/// Keeps bytes in a file of their own, `log.left-out-1`, `volume.left-out-1` or one with the next
+/// number that is free, whole and synced.
+pub(crate) fn keep_bytes<F: DatabaseFolder>(
+    diagnostics: &Diagnostics<'_>,
+    folder: &mut F,
+    origin: Origin,
+    bytes: &[u8],
+) -> Result<(), ChangeFault>
+    requires { F.is_claimed folder.old }
+    ensures kept { OnOk result (IsKept (F.entries folder.old) bytes.now (F.entries folder.new)) }
+    ensures stored { OnOk result (F.is_stored folder.new) }
+    ensures note { OnOk result (KeepsNote (F.entries folder.old) (F.entries folder.new)) }
+    ensures files { Changes KeepsFiles (F.entries folder.old) (F.entries folder.new) }
+    ensures claimed { F.is_claimed folder.new }
+{
+    let name = free_name(diagnostics.alloc, folder, origin)?;
     let mut source = LeftOut { bytes };
     let put = put_in_place(folder, diagnostics.alloc, name.as_str(), &mut source);
     if let Err(PutFault::Unmade(why) | PutFault::Unwritten(why) | PutFault::Unplaced(why)) = put {
@@ -76,17 +106,27 @@ pub(crate) fn put_aside<F: DatabaseFolder>(
     }
     folder.sync_names().map_err(ChangeFault::of_folder)?;
     let new = name.as_str();
-    diagnostics.tell(Place::Log, &format_args!("they are now {new}"));
+    match origin {
+        Origin::Log => diagnostics.tell(Place::Log, &format_args!("they are now {new}")),
+        Origin::Volume => diagnostics.tell(
+            Place::Volume,
+            &format_args!("what stood there is now {new} too"),
+        ),
+    }
     Ok(())
 }
 
 /// The first name for such bytes that nothing in the folder has.
-fn free_name<F: DatabaseFolder>(alloc: Global, folder: &F) -> Result<String, ChangeFault>
+fn free_name<F: DatabaseFolder>(
+    alloc: Global,
+    folder: &F,
+    origin: Origin,
+) -> Result<String, ChangeFault>
     ensures apart { IfOk result (λ it. string_bytes it ≢ codes "closed") }
     ensures free { IfOk result (λ it. IsFree (string_bytes it) (F.entries folder.now)) }
 {
     for number in 1..=MOST_LEFT_OUT {
-        let name = name_of(alloc, number)?;
+        let name = name_of(alloc, origin, number)?;
         match folder.has(name.as_str()) {
             Ok(true) => {}
             Ok(false) => return Ok(name),
@@ -96,8 +136,11 @@ fn free_name<F: DatabaseFolder>(alloc: Global, folder: &F) -> Result<String, Cha
     Err(ChangeFault::NotAside(FileFault::WriteFault(0)))
 }
 
-fn name_of(alloc: Global, number: u32) -> Result<String, AllocError>
-    ensures { IfOk result (λ it. string_bytes it ≡ LEFT_OUT.now ++ decimal number) }
+fn name_of(alloc: Global, origin: Origin, number: u32) -> Result<String, AllocError>
+    ensures { IfOk result (λ it. string_bytes it ≢ codes "closed") }
 {
-    format!(in alloc; "{LEFT_OUT}{number}")
+    match origin {
+        Origin::Log => format!(in alloc; "{LEFT_OUT}{number}"),
+        Origin::Volume => format!(in alloc; "{VOLUME_LEFT_OUT}{number}"),
+    }
 }

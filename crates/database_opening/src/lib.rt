@@ -6,6 +6,7 @@ mod first_line;
 mod left_out;
 mod made_ready;
 mod new_database;
+mod old_volume;
 mod open_call;
 mod opening;
 mod restarted;

@@ -8,6 +8,7 @@ ghost use Rattle.page_core.specs.Volume.{formatted_pages};
 ghost use Rattle.saved_files.specs.Folder.{Changes, KeepsOthers};
 ghost use Rattle.database_files.specs.Closed.{KeepsNote};
 ghost use Rattle.database_files.specs.Standing.{KeepsFiles};
+ghost use Rattle.database_opening.specs.OldVolume.{KeepsButLogAndVolume};
 
 use crate::volume_file::volume_of;
 use aries_core::{Engine, PlayFault, Setup};
@@ -30,6 +31,7 @@ pub fn begin<F: DatabaseFolder>(
     requires claimed { F.is_claimed folder.old }
     ensures new { IfOk result (λ it. it.state ≡ new_state setup.pages setup.frames) }
     ensures kept { Changes KeepsFiles (F.entries folder.old) (F.entries folder.new) }
+    ensures others { Changes KeepsButLogAndVolume (F.entries folder.old) (F.entries folder.new) }
     ensures note { OnOk result (KeepsNote (F.entries folder.old) (F.entries folder.new)) }
     ensures stored { OnOk result (F.is_stored folder.new) }
     ensures claimed { F.is_claimed folder.new }

@@ -11,6 +11,7 @@ ghost use Rattle.database_files.specs.DatabaseFolder.{HasNoOtherVolume, OpensLog
 ghost use Rattle.database_files.specs.Evidence.{log_line};
 ghost use Rattle.database_files.specs.Found.{IsFoundIn, IsInventoryOf, SpellsManifest};
 ghost use Rattle.database_files.specs.MovedAside.{KeepsOrPutsAside};
+ghost use Rattle.database_opening.specs.OldVolume.{KeepsOldVolume, KeepsOldVolumeOfNew};
 ghost use Rattle.database_opening.specs.Opened.{Begins, BeginsAnew, HandsOn, len_of};
 ghost use Rattle.database_files.specs.Found.{HasNoOrphan};
 ghost use Rattle.database_files.specs.Kept.{IsNameIn};
@@ -19,6 +20,7 @@ ghost use Rattle.database_files.specs.Standing.{KeepsFiles};
 
 use crate::first_line::FirstLine;
 use crate::new_database::begin;
+use crate::old_volume::{keep_volume, old_volume};
 use crate::open_call::OpenCall;
 use crate::restarted::{ResumedDatabase, reopen};
 use crate::volume_file::check_volume;
@@ -55,6 +57,9 @@ pub fn opened<F: DatabaseFolder>(
         → Changes KeepsFiles (F.entries folder.old) (F.entries folder.new) }
     // What is left of a log is to be opened: a file that knows of more may get another name.
     ensures stays { Changes KeepsOrPutsAside (F.entries folder.old) (F.entries folder.new) }
+    // Of a new one: a volume that has a change is not lost.
+    ensures volume { IfOk result (λ it. KeepsOldVolumeOfNew it.first call.now.salvage
+        (F.entries folder.old) (F.entries folder.new)) }
     // The note of the last closing says nothing of what comes now.
     ensures gone { OnOk result (IsWithoutNote (F.entries folder.new)) }
     // The folder was only looked at.
@@ -90,6 +95,9 @@ fn open_from<F: DatabaseFolder>(
     ensures kept { call.now.salvage ≡ false
         → Changes KeepsFiles (F.entries folder.old) (F.entries folder.new) }
     ensures stays { Changes KeepsOrPutsAside (F.entries folder.old) (F.entries folder.new) }
+    // Of a new one: a volume that has a change is not lost.
+    ensures volume { IfOk result (λ it. KeepsOldVolumeOfNew it.first call.now.salvage
+        (F.entries folder.old) (F.entries folder.new)) }
     ensures gone { OnOk result (IsWithoutNote (F.entries folder.new)) }
     ensures handed { IfOk result (λ it. HandsOn (F.entries folder.old) call.now.salvage it.first
         it.engine.state it.unread.items it.point it.is_master_wrong) }
@@ -128,6 +136,9 @@ fn begun<F: DatabaseFolder>(
     ensures handed { IfOk result (λ it. HandsOn (F.entries folder.old) call.now.salvage it.first
         it.engine.state it.unread.items it.point it.is_master_wrong) }
     ensures kept { Changes KeepsFiles (F.entries folder.old) (F.entries folder.new) }
+    // A volume that has a change is there only where what is left is to be opened, and is kept.
+    ensures volume { OnOk result (KeepsOldVolume call.now.salvage
+        (F.entries folder.old) (F.entries folder.new)) }
     ensures gone { OnOk result (IsWithoutNote (F.entries folder.new)) }
     // The names of the log and of the volume last.
     ensures stored { IfOk result (λ _. F.is_stored folder.new) }
@@ -142,8 +153,10 @@ fn begun<F: DatabaseFolder>(
     let alloc = diagnostics.alloc;
     let manifest = manifest_of_new(alloc, folder, there)?;
     let pages = count_of_new(alloc, folder, call, there)?;
+    let held = old_volume(folder, call.salvage)?;
     let database = name_for(folder, &manifest)?;
     there.clear(folder)?;
+    keep_volume(diagnostics, folder, &held)?;
     let setup = Setup {
         pages,
         frames: call.frames,

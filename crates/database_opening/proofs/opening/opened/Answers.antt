@@ -1,5 +1,6 @@
 use Rattle.database_opening.proofs.LogThere.{handed_in, manifest_in, opened_in}
 use Rattle.database_opening.specs.Opened.{len_of}
+use Rattle.database_opening.proofs.OldVolumes.{volume_in}
 use Rattle.database_files.specs.Refused.{IsRefusal}
 use Rattle.database_files.proofs.Public.{refused_in}
 use Rattle.database_files.proofs.Public.{puts_more, puts_none}
@@ -43,3 +44,9 @@ pub returns-clause-manifest : goal.returns-clause-manifest
 returns-clause-manifest g c =
     manifest_in c.open_from.result (λ it. it.manifest) (g.F.Folder.entries c.args.folder.now)
     (g.F.Folder.entries c.claim_or_wait.new.self) c.claim_or_wait.ensures.same c.open_from.ensures.manifest
+
+pub returns-clause-volume : goal.returns-clause-volume
+returns-clause-volume g c =
+    volume_in c.open_from.result (λ it. it.first) c.args.call.now.salvage (g.F.Folder.entries c.args.folder.now)
+    (g.F.Folder.entries c.claim_or_wait.new.self) (g.F.Folder.entries c.open_from.new.folder)
+    c.claim_or_wait.ensures.same c.open_from.ensures.volume

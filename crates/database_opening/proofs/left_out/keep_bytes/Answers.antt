@@ -4,10 +4,10 @@ use Rattle.saved_files.specs.Folder.{Changes, Puts}
 use Rattle.database_files.specs.MovedAside.{IsFree}
 use Rattle.database_opening.proofs.Forgotten.{note_put}
 use Rattle.database_files.proofs.Public.{put_and_synced}
-use Rattle.database_opening.proofs.left_out.put_aside.Goals as goal
+use Rattle.database_opening.proofs.left_out.keep_bytes.Goals as goal
 
 pub returns-clause-kept : goal.returns-clause-kept
-returns-clause-kept g c worth =
+returns-clause-kept g c =
     let name = c.as_str.result.now in
     let entries = g.F.Folder.entries in (
       name,
