@@ -1,6 +1,6 @@
 -- The copies that are taken up.
-use Rattle.std.specs.Prelude.{ℕ, ◌≡◌, ◌≢◌, ◌⊎◌, List, [], ◌∷◌, ◌++◌}
-use Rattle.std.specs.List.{flat_map}
+use Rattle.std.specs.Prelude.{ℕ, ◌≡◌, ◌≢◌, ◌⊎◌, List, [], ◌∷◌, ◌++◌, ◌==◌, if◌then◌else◌, length}
+use Rattle.std.specs.List.{fold}
 use Rattle.copy_vault.specs.Added.{with_copy}
 use Rattle.copy_vault.specs.declared.add_fault.AddFault.TheVariants as vault
 use Rattle.copy_vault.specs.Copy.{CopyView}
@@ -59,11 +59,16 @@ pub data TakesUp (end : ℕ) (begun : RestartedView) : List CopyFile → Restart
       → TakesUp end begun files old → new.log ≡ old.log → IsFileJudged end file.id file.found old new
       → TakesUp end begun (files ++ file ∷ []) new
 
--- the id of a copy that could not be read
-abbrev pub id_unread : ℕ → FoundCopy → List ℕ
-id_unread id (Whole copy) = []
-id_unread id (Wrong why) = []
-id_unread id (Unread why) = id ∷ []
+-- the id of a copy that could not be read, and that of a copy behind it, which may stand on it, are
+-- passed over, too: these ones are so far
+abbrev pub ids_behind : List ℕ → ℕ → FoundCopy → List ℕ
+ids_behind unread id (Whole copy) = if length unread == 0 then unread else unread ++ id ∷ []
+ids_behind unread id (Wrong why) = unread
+ids_behind unread id (Unread why) = unread ++ id ∷ []
 
+abbrev pub ids_passed : List ℕ → CopyFile → List ℕ
+ids_passed unread file = ids_behind unread file.id file.found
+
+-- so it is with one copy after another
 abbrev pub ids_unread : List CopyFile → List ℕ
-ids_unread files = flat_map (λ file. id_unread file.id file.found) files
+ids_unread files = fold ids_passed [] files

@@ -1,10 +1,10 @@
 //! The copies that stand in a folder are taken up.
 
-ghost use Rattle.std.specs.Prelude.{◌≡◌, ◌↔◌, ◌++◌, IfErr, IfOk, IsTrue, OnErr, OnOk};
+ghost use Rattle.std.specs.Prelude.{◌≡◌, ◌↔◌, IfErr, IfOk, IsTrue, OnErr, OnOk};
 ghost use Rattle.copy_vault.specs.Added.{with_copy};
 ghost use Rattle.engine_restart.specs.Added.{IsNotAdded, MayAdd};
 ghost use Rattle.database_opening.specs.Copies.{IsFileJudged, IsJudged, IsJudgedWithin, IsOfMemory};
-ghost use Rattle.database_opening.specs.Copies.{TakesUp, id_unread, ids_unread};
+ghost use Rattle.database_opening.specs.Copies.{TakesUp, ids_passed, ids_unread};
 
 use copy_vault::{AddFault, CompleteCopy, CopyId};
 use database_files::{CopyFile, CopyTrouble, Diagnostics, FoundCopy, Place, is_within};
@@ -15,7 +15,8 @@ use std::alloc::{AllocError, Global};
 /// Takes up these copies, whose ids rise, each once it is audited against the log. Why one is not
 /// is told, and its file stays where it is. One that knows of more than the log had, which ended
 /// there before anything was taken back, is none of them: its file was moved aside. Answers the ids
-/// of those that could not be read: they are not given again.
+/// that are not given: those of copies that could not be read, and of all copies behind the first
+/// of these, which may stand on it.
 pub(crate) fn take_up(
     diagnostics: &Diagnostics<'_>,
     restarted: &mut Restarted,
@@ -46,11 +47,17 @@ fn take_file(
     ensures pages { restarted.new.pages ≡ restarted.old.pages }
     ensures judged { OnOk result (IsFileJudged end file.id file.found restarted.old restarted.new) }
     ensures unread { OnOk result
-        (unread.new.items ≡ unread.old.items ++ id_unread file.id file.found) }
+        (unread.new.items ≡ ids_passed unread.old.items file) }
 {
     let CopyFile { id, found } = file;
     match found {
-        FoundCopy::Whole(copy) => take_within(diagnostics, restarted, end, id, copy),
+        FoundCopy::Whole(copy) => {
+            // It may stand on one that could not be read.
+            if !unread.is_empty() {
+                unread.push(id.0)?;
+            }
+            take_within(diagnostics, restarted, end, id, copy)
+        }
         FoundCopy::Wrong(why) => {
             diagnostics.tell(Place::Copy(id), &why);
             Ok(())

@@ -62,7 +62,7 @@ pub struct ResumedDatabase<S: PageStore, D: Disk + Drop> {
     pub point: Option<Point>,
     /// What stands as the master record, if that names no checkpoint of the log.
     pub is_master_wrong: bool,
-    /// The ids of copies that could not be read. They are not given.
+    /// The ids of copies that could not be read, and of those behind them. They are not given.
     pub unread: Vec<u32>,
     /// The name of the database, and the manifest that was found.
     pub database: DatabaseName,

@@ -1,6 +1,6 @@
-use Rattle.std.proofs.Common.{◌++◌, refl, ap, sym, ◌∙◌}
+use Rattle.std.proofs.Common.{refl, ap, sym, ◌∙◌}
 use Rattle.database_opening.proofs.TakingUp.{ids_more}
-use Rattle.database_opening.specs.Copies.{id_unread, none_left, one_more}
+use Rattle.database_opening.specs.Copies.{ids_passed, none_left, one_more}
 use Rattle.database_opening.proofs.copies.take_up.Goals as goal
 
 pub loop-file-init : goal.loop-file-init
@@ -20,6 +20,6 @@ loop-file-preserved c =
       pages = c.take_file.ensures.pages ∙ so_far.pages;
       taken = one_more c.loop-file.yielded file c.loop-file.restarted c.take_file.new.restarted so_far.taken
           c.take_file.ensures.log c.in_ok-take_file.ensures.judged;
-      unread = c.in_ok-take_file.ensures.unread ∙ ap (λ ids. ids ++ id_unread file.id file.found) so_far.unread
+      unread = c.in_ok-take_file.ensures.unread ∙ ap (λ ids. ids_passed ids file) so_far.unread
           ∙ sym (ids_more c.loop-file.yielded file);
     }
