@@ -77,7 +77,7 @@ fn manifest_beside<F: DatabaseFolder>(
     let is_there = folder.has(MANIFEST).map_err(OpenFault::of_folder)?;
     match read_manifest(alloc, folder, is_there)? {
         Some(it) if it.database() != database => Err(OpenFault::OtherDatabase(Place::Manifest)),
-        Some(it) => Ok(without_lost(diagnostics, folder, it, None)?.0),
+        Some(it) => Ok(without_lost(diagnostics, folder, it)?.0),
         None => Ok(Manifest::new(alloc, database)),
     }
 }

@@ -7,10 +7,8 @@ use Rattle.manifest.specs.Entries.{Noted, file_of, without}
 use Rattle.manifest.specs.declared.entry.FileSum.{FileSum}
 use Rattle.saved_files.specs.Folder.{Entries, absent}
 use Rattle.database_files.specs.DatabaseFolder.{Tells}
-use Rattle.copy_vault.specs.Vault.{CopyState, complete_of, state_of}
 use Rattle.manifest.specs.declared.sums.Sums.{Sums}
-use Rattle.database_files.specs.Found.{NamesCopy}
-use Rattle.database_files.specs.Kept.{IsUsed, KeepsFoundLines, KeepsLines, KeepsLinesOf, KeepsUsedLines}
+use Rattle.database_files.specs.Kept.{KeepsFoundLines, KeepsLines, KeepsLinesOf}
 
 other_name : (a b : List ℕ) → a ≢ b → bytes_eq a b ≡ false
 other_name a b apart = go (bytes_eq a b) refl
@@ -46,62 +44,36 @@ lines_without None name old mid gone kept = tt
 lines_without (Some there) name old mid gone kept = λ n stands.
     others_stay n name (λ same. stands (ap there same ∙ gone)) mid ∙ kept n stands
 
--- ---- copies that were not taken up
-
--- the name of a copy that is not complete is not used
-pub copy_unused : (copies : List CopyState) (name : List ℕ) (id : ℕ) → NamesCopy id name
-    → (IsSome (complete_of (state_of copies id)) → ⊥) → ¬ IsUsed (Some copies) name
-copy_unused copies name id names none = λ used. none (used id names)
-
-pub all_used_lines : (entries : Option Entries) (copies : Option (List CopyState)) (lines : List Noted)
-    → KeepsUsedLines entries copies lines lines
-all_used_lines None copies lines = tt
-all_used_lines (Some there) copies lines = λ n stands used. refl
-
-other_name_used : (there : Entries) (copies : Option (List CopyState)) (name n : List ℕ) → there n ≢ absent
-    → IsUsed copies n → (¬ IsUsed copies name) ⊎ (there name ≡ absent) → n ≢ name
-other_name_used there copies name n stands used why = elim why [
-  | inl unused ↦ λ same. unused (subst (IsUsed copies) same used)
-  | inr gone ↦ λ same. stands (ap there same ∙ gone)
-]
-
--- the line of a file that is gone, or of such a copy, is dropped
-pub used_lines_without : (entries : Option Entries) (copies : Option (List CopyState)) (name : List ℕ)
-    (old mid : List Noted) → (¬ IsUsed copies name) ⊎ Tells entries name false
-    → KeepsUsedLines entries copies old mid → KeepsUsedLines entries copies old (without name mid)
-used_lines_without None copies name old mid why kept = tt
-used_lines_without (Some there) copies name old mid why kept = λ n stands used.
-    others_stay n name (other_name_used there copies name n stands used why) mid ∙ kept n stands used
+-- ---- the line of the log
 
 not_the_log : (n : List ℕ) → (n ≢ codes "log") ⊎ (false ≡ true) → n ≢ codes "log"
 not_the_log n why = elim why [ inl other ↦ other | inr is ↦ absurd (true≢false (sym is)) ]
 
 -- all lines of this log are kept
-pub lines_of_this : (entries : Option Entries) (copies : List CopyState) (old new : List Noted)
-    → KeepsUsedLines entries (Some copies) old new → KeepsLinesOf entries copies true old new
-lines_of_this None copies old new kept = tt
-lines_of_this (Some there) copies old new kept = λ n stands used why. kept n stands used
+pub lines_of_this : (entries : Option Entries) (old new : List Noted) → KeepsLines entries old new
+    → KeepsLinesOf entries true old new
+lines_of_this None old new kept = tt
+lines_of_this (Some there) old new kept = λ n stands why. kept n stands
 
 -- the line of another log is dropped
-pub lines_of_another : (entries : Option Entries) (copies : List CopyState) (old mid : List Noted)
-    → KeepsUsedLines entries (Some copies) old mid → KeepsLinesOf entries copies false old (without (codes "log") mid)
-lines_of_another None copies old mid kept = tt
-lines_of_another (Some there) copies old mid kept = λ n stands used why.
-    others_stay n (codes "log") (not_the_log n why) mid ∙ kept n stands used
+pub lines_of_another : (entries : Option Entries) (old mid : List Noted) → KeepsLines entries old mid
+    → KeepsLinesOf entries false old (without (codes "log") mid)
+lines_of_another None old mid kept = tt
+lines_of_another (Some there) old mid kept = λ n stands why.
+    others_stay n (codes "log") (not_the_log n why) mid ∙ kept n stands
 
 is_this : {P : Type 0} (sums : Option Sums) (is : Bool) → (IsSome sums → is ≡ true) → P ⊎ IsSome sums → P ⊎ (is ≡ true)
 is_this {P} sums is summed why = elim why [ inl p ↦ inl p | inr some ↦ inr (summed some) ]
 
 -- so it is with the lines that were found
-pub found_lines : (entries : Option Entries) (copies : List CopyState) (sums : Option Sums) (is_of_this : Bool)
-    (old new : List Noted) → (IsSome sums → is_of_this ≡ true) → KeepsLinesOf entries copies is_of_this old new
-    → KeepsFoundLines entries copies sums old new
-found_lines None copies sums is_of_this old new summed kept = tt
-found_lines (Some there) copies sums is_of_this old new summed kept = λ manifest n stands used why.
-    kept n stands used (is_this sums is_of_this summed why)
+pub found_lines : (entries : Option Entries) (sums : Option Sums) (is_of_this : Bool) (old new : List Noted)
+    → (IsSome sums → is_of_this ≡ true) → KeepsLinesOf entries is_of_this old new → KeepsFoundLines entries sums old new
+found_lines None sums is_of_this old new summed kept = tt
+found_lines (Some there) sums is_of_this old new summed kept = λ manifest n stands why.
+    kept n stands (is_this sums is_of_this summed why)
 
 -- a manifest that is gone has no lines to be kept
-pub gone_lines : (entries : Option Entries) (copies : List CopyState) (sums : Option Sums) (old new : List Noted)
-    → Tells entries (codes "manifest") false → KeepsFoundLines entries copies sums old new
-gone_lines None copies sums old new gone = tt
-gone_lines (Some there) copies sums old new gone = λ manifest n stands used why. absurd (manifest gone)
+pub gone_lines : (entries : Option Entries) (sums : Option Sums) (old new : List Noted)
+    → Tells entries (codes "manifest") false → KeepsFoundLines entries sums old new
+gone_lines None sums old new gone = tt
+gone_lines (Some there) sums old new gone = λ manifest n stands why. absurd (manifest gone)

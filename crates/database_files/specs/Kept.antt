@@ -8,8 +8,7 @@ use Rattle.saved_files.specs.Folder.{Entries, absent}
 use Rattle.saved_files.specs.PutFault.{bytes_by}
 use Rattle.saved_files.specs.Saved.{name_of}
 use Rattle.saved_files.specs.declared.saved_name.SavedName.TheVariants as saved
-use Rattle.copy_vault.specs.Vault.{CopyState, complete_of, state_of}
-use Rattle.database_files.specs.Found.{IsFoundIn, NamesCopy, SpellsManifest}
+use Rattle.database_files.specs.Found.{IsFoundIn, SpellsManifest}
 use Rattle.database_files.specs.DatabaseFolder.{HasFile}
 use Rattle.std.specs.List.{flat_map}
 use Rattle.std.specs.Str.{bytes_eq}
@@ -75,29 +74,16 @@ abbrev pub KeepsLines : Option Entries → List Noted → List Noted → Type 0
 KeepsLines entries old new =
     IfSome entries (λ there. (n : List ℕ) → there n ≢ absent → file_of n new ≡ file_of n old)
 
--- a name is of no copy, or of one that is complete among these; where no copies are told, it may be
--- of any
-abbrev pub IsUsed : Option (List CopyState) → List ℕ → Type 0
-IsUsed None name = Unit {0}
-IsUsed (Some copies) name = (id : ℕ) → NamesCopy id name → IsSome (complete_of (state_of copies id))
-
--- of the files that stand in a folder and are used so, all is noted that was
-abbrev pub KeepsUsedLines : Option Entries → Option (List CopyState) → List Noted → List Noted → Type 0
-KeepsUsedLines entries copies old new = IfSome entries (λ there. (n : List ℕ) → there n ≢ absent
-    → IsUsed copies n → file_of n new ≡ file_of n old)
-
 -- so it is, but for the log, where that is another one than the lines name
-abbrev pub KeepsLinesOf : Option Entries → List CopyState → Bool → List Noted → List Noted → Type 0
-KeepsLinesOf entries copies is_of_this old new =
-    IfSome entries (λ there. (n : List ℕ) → there n ≢ absent → IsUsed (Some copies) n
+abbrev pub KeepsLinesOf : Option Entries → Bool → List Noted → List Noted → Type 0
+KeepsLinesOf entries is_of_this old new = IfSome entries (λ there. (n : List ℕ) → there n ≢ absent
     → (n ≢ codes "log") ⊎ (is_of_this ≡ true) → file_of n new ≡ file_of n old)
 
 -- so it is with the lines of the manifest that was found, if it still stands there; the log is the
 -- one that it names where the bytes were summed
-abbrev pub KeepsFoundLines : Option Entries → List CopyState → Option Sums → List Noted → List Noted
-    → Type 0
-KeepsFoundLines entries copies sums old new = IfSome entries (λ there. there (codes "manifest") ≢ absent
-    → (n : List ℕ) → there n ≢ absent → IsUsed (Some copies) n → (n ≢ codes "log") ⊎ IsSome sums
+abbrev pub KeepsFoundLines : Option Entries → Option Sums → List Noted → List Noted → Type 0
+KeepsFoundLines entries sums old new = IfSome entries (λ there. there (codes "manifest") ≢ absent
+    → (n : List ℕ) → there n ≢ absent → (n ≢ codes "log") ⊎ IsSome sums
     → file_of n new ≡ file_of n old)
 
 -- the name of a database is the one that a manifest has, if there is one

@@ -3,7 +3,6 @@
 ghost use Rattle.std.specs.Prelude.{IfOk, ℕ, ◌≡◌, ◌≢◌, ◌⊎◌, ◌++◌, [], List, IfSome, IsTrue, None};
 ghost use Rattle.std.specs.Prelude.{OnOk, Some, false, string_bytes};
 ghost use Rattle.std.specs.List.{flat_map};
-ghost use Rattle.std.specs.Option.{option_map};
 ghost use Rattle.log_records.specs.Log.{Log as TheLog, header_bytes};
 ghost use Rattle.log_records.specs.Record.{record_bytes};
 ghost use Rattle.manifest.specs.Entries.{file_of};
@@ -11,17 +10,16 @@ ghost use Rattle.manifest.specs.declared.entry.Extent.TheVariants.{First};
 ghost use Rattle.manifest.specs.Sums.{HasSummed, IsSumOf};
 ghost use Rattle.database_files.specs.DatabaseFolder.{Tells};
 ghost use Rattle.database_files.specs.Evidence.{log_line};
-ghost use Rattle.database_files.specs.Kept.{HasSummedLog, HaveSummedLine, IsNameIn, IsUsed};
+ghost use Rattle.database_files.specs.Kept.{HasSummedLog, HaveSummedLine, IsNameIn};
 ghost use Rattle.database_files.specs.Kept.{KeepsFoundLines, KeepsLines, KeepsLinesOf};
-ghost use Rattle.database_files.specs.Kept.{KeepsUsedLines, bytes_below};
+ghost use Rattle.database_files.specs.Kept.{bytes_below};
 
 use crate::database_folder::DatabaseFolder;
 use crate::diagnostics::Diagnostics;
 use crate::fault::OpenFault;
 use crate::found_manifest::log_line;
-use crate::names::{LOG, MANIFEST, copy_of};
+use crate::names::{LOG, MANIFEST};
 use crate::place::Place;
-use copy_vault::Vault;
 use log_records::{Record, encode, encode_header};
 use manifest::{DatabaseName, Extent, FileSum, Manifest, Sums};
 use page_core::{LSN_STEP, Lsn};
@@ -124,21 +122,20 @@ impl KeptManifest {
     }
 
     /// The manifest of a database of this name: that which was found, if it still stands there,
-    /// without the lines of files that are gone, and of copies that were not taken up; or a new
-    /// one. The log's header gives this page count, and its bytes that were named have this sum.
+    /// without the lines of files that are gone, and of a log that is another one; or a new one. The
+    /// log's header gives this page count, and its bytes that were named have this sum.
     pub fn begin<F: DatabaseFolder>(
         diagnostics: &Diagnostics<'_>,
         folder: &F,
         database: DatabaseName,
         found: (Option<Manifest>, Option<Sums>),
         pages: u32,
-        copies: &Vault,
     ) -> Result<KeptManifest, OpenFault>
         // The manifest that was found has this name.
         requires { IsNameIn found.0 database.0 }
         ensures database { IfOk result (λ it. it.manifest.database ≡ database.0) }
         ensures lines { IfOk result (λ it. IfSome found.0 (λ old. KeepsFoundLines
-            (F.entries folder.now) copies.now.copies found.1 old.entries it.manifest.entries)) }
+            (F.entries folder.now) found.1 old.entries it.manifest.entries)) }
         ensures summed { IfOk result (λ it. (log : TheLog) → log.pages ≡ pages
             → HaveSummedLine found.1 (log_line found.0) log → HasSummedLog it.log log) }
     {
@@ -154,7 +151,7 @@ impl KeptManifest {
         if !stands(folder, MANIFEST)? {
             return Ok(kept);
         }
-        let (manifest, has_all) = lines_of(diagnostics, folder, it, copies, is_of_this)?;
+        let (manifest, has_all) = lines_of(diagnostics, folder, it, is_of_this)?;
         kept.manifest = manifest;
         kept.is_placed = has_all;
         kept.is_due = !has_all;
@@ -170,20 +167,19 @@ impl KeptManifest {
     }
 }
 
-/// A manifest without the lines of files that are gone, of copies that were not taken up, and of a
-/// log that is another one; and whether it has all of its lines.
+/// A manifest without the lines of files that are gone, and of a log that is another one; and
+/// whether it has all of its lines.
 fn lines_of<F: DatabaseFolder>(
     diagnostics: &Diagnostics<'_>,
     folder: &F,
     manifest: Manifest,
-    copies: &Vault,
     is_of_this: bool,
 ) -> Result<(Manifest, bool), OpenFault>
     ensures database { IfOk result (λ it. it.0.database ≡ manifest.database) }
-    ensures kept { IfOk result (λ it. KeepsLinesOf (F.entries folder.now) copies.now.copies
+    ensures kept { IfOk result (λ it. KeepsLinesOf (F.entries folder.now)
         is_of_this manifest.entries it.0.entries) }
 {
-    let (mut manifest, has_all) = without_lost(diagnostics, folder, manifest, Some(copies))?;
+    let (mut manifest, has_all) = without_lost(diagnostics, folder, manifest)?;
     if is_of_this {
         return Ok((manifest, has_all));
     }
@@ -191,23 +187,20 @@ fn lines_of<F: DatabaseFolder>(
     Ok((manifest, false))
 }
 
-/// A manifest without the lines of files that are gone, and of copies that were not taken up, where
-/// copies were; and whether it has all of its lines.
+/// A manifest without the lines of files that are gone, and whether it has all of its lines. That of
+/// a copy that is not sound stays, so that nobody takes this for a copy that no manifest names.
 pub fn without_lost<F: DatabaseFolder>(
     diagnostics: &Diagnostics<'_>,
     folder: &F,
     mut manifest: Manifest,
-    copies: Option<&Vault>,
 ) -> Result<(Manifest, bool), OpenFault>
     ensures database { IfOk result (λ it. it.0.database ≡ manifest.database) }
-    ensures kept { IfOk result (λ it. copies.entry ≡ None
-        → KeepsLines (F.entries folder.now) manifest.entries it.0.entries) }
-    ensures used { IfOk result (λ it. KeepsUsedLines (F.entries folder.now)
-        (option_map (λ it. it.now.copies) copies.entry) manifest.entries it.0.entries) }
+    ensures kept { IfOk result (λ it.
+        KeepsLines (F.entries folder.now) manifest.entries it.0.entries) }
 {
     let mut has_all = true;
     for _ in 0..MOST_LINES {
-        let Some(name) = lost_name(diagnostics.alloc, folder, &manifest, copies)? else {
+        let Some(name) = lost_name(diagnostics.alloc, folder, &manifest)? else {
             break;
         };
         let text = name.as_str();
@@ -221,38 +214,22 @@ pub fn without_lost<F: DatabaseFolder>(
     Ok((manifest, has_all))
 }
 
-/// The first file that a manifest names and that is gone, or is a copy that was not taken up.
+/// The first file that a manifest names and that is gone.
 fn lost_name<F: DatabaseFolder>(
     alloc: Global,
     folder: &F,
     manifest: &Manifest,
-    copies: Option<&Vault>,
 ) -> Result<Option<String>, OpenFault>
-    ensures gone { IfOk result (λ it. IfSome it (λ name. copies.entry ≡ None
-        → Tells (F.entries folder.now) (string_bytes name) false)) }
-    ensures unused { IfOk result (λ it. IfSome it (λ name.
-        (¬ IsUsed (option_map (λ it. it.now.copies) copies.entry) (string_bytes name))
-        ⊎ Tells (F.entries folder.now) (string_bytes name) false)) }
+    ensures { IfOk result (λ it. IfSome it (λ name.
+        Tells (F.entries folder.now) (string_bytes name) false)) }
 {
     for entry in manifest.entries() {
         let name = entry.name();
-        if !is_used(copies, name) || !stands(folder, name)? {
+        if !stands(folder, name)? {
             return Ok(Some(String::from_str(alloc, name)?));
         }
     }
     Ok(None)
-}
-
-/// Whether this is the name of a copy that is taken up, or of no copy.
-fn is_used(copies: Option<&Vault>, name: &str) -> bool
-    ensures any { copies.entry ≡ None → IsTrue result }
-    ensures unused { result ≡ false
-        → ¬ IsUsed (option_map (λ it. it.now.copies) copies.entry) name.now }
-{
-    match (copies, copy_of(name)) {
-        (Some(copies), Some(id)) => copies.complete(id).is_some(),
-        _ => true,
-    }
 }
 
 /// Whether something in the folder has this name.

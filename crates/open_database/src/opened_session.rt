@@ -55,15 +55,8 @@ pub fn session_in<'a, F: DatabaseFolder + Drop>(
         manifest,
         sums,
     } = opened(diagnostics, &mut folder, call)?;
-    let (pages, copies) = (engine.log().header_pages(), engine.copies());
-    let kept = KeptManifest::begin(
-        diagnostics,
-        &folder,
-        database,
-        (manifest, sums),
-        pages,
-        copies,
-    )?;
+    let pages = engine.log().header_pages();
+    let kept = KeptManifest::begin(diagnostics, &folder, database, (manifest, sums), pages)?;
     let mut session = session_on(diagnostics, folder, notes, engine, unplaced);
     session.is_master_wrong = is_master_wrong;
     session.unread = unread;

@@ -7,18 +7,16 @@ use Rattle.database_files.proofs.kept_manifest.lines_of.Goals as goal
 pub returns-then-is_of_this-clause-kept : goal.returns-then-is_of_this-clause-kept
 returns-then-is_of_this-clause-kept g c =
     let entries = g.F.Folder.entries c.args.folder.now in
-    let copies = c.args.copies.now.copies in
-    subst (λ (is : Bool). KeepsLinesOf entries copies is c.args.manifest.entries c.in_ok-manifest.manifest.entries)
+    subst (λ (is : Bool). KeepsLinesOf entries is c.args.manifest.entries c.in_ok-manifest.manifest.entries)
     (sym c.if-is_of_this.true)
-    (lines_of_this entries copies c.args.manifest.entries c.in_ok-manifest.manifest.entries
-    c.in_ok-manifest.ensures.used)
+    (lines_of_this entries c.args.manifest.entries c.in_ok-manifest.manifest.entries
+    c.in_ok-manifest.ensures.kept)
 
 pub returns-clause-kept : goal.returns-clause-kept
 returns-clause-kept g c =
     let entries = g.F.Folder.entries c.args.folder.now in
-    let copies = c.args.copies.now.copies in
     let old = c.args.manifest.entries in
-    subst (λ (is : Bool). KeepsLinesOf entries copies is old c.remove.new.self.entries) (sym c.if-is_of_this.false)
-    (subst (λ (lines : List Noted). KeepsLinesOf entries copies false old lines)
+    subst (λ (is : Bool). KeepsLinesOf entries is old c.remove.new.self.entries) (sym c.if-is_of_this.false)
+    (subst (λ (lines : List Noted). KeepsLinesOf entries false old lines)
     (sym (ap (λ (it : Listed). it.entries) c.remove.ensures))
-    (lines_of_another entries copies old c.in_ok-manifest.manifest.entries c.in_ok-manifest.ensures.used))
+    (lines_of_another entries old c.in_ok-manifest.manifest.entries c.in_ok-manifest.ensures.kept))
