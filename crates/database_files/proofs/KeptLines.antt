@@ -1,11 +1,11 @@
 -- The lines of a manifest, without those of files that are gone.
-use Rattle.std.proofs.Common.{◌≡◌, ◌∙◌, ◌∷◌, Bool, List, [], ap, cond, false, inl, inr, not, refl, subst, sym, true, true≢false, ℕ}
+use Rattle.std.proofs.Common.{◌≡◌, ◌∙◌, ◌∷◌, Bool, List, [], ap, cond, false, inl, inr, not, refl, sym, true, true≢false, ℕ}
 use Rattle.std.specs.Prelude.{◌≢◌, ◌⊎◌, codes, IsSome, None, Option, Some}
 use Rattle.std.specs.Str.{bytes_eq}
 use Rattle.std.proofs.lemmas.Slice.Eq.{bytes_eq-Decides}
 use Rattle.manifest.specs.Entries.{Noted, file_of, without}
 use Rattle.manifest.specs.declared.entry.FileSum.{FileSum}
-use Rattle.saved_files.specs.Folder.{Entries, absent}
+use Rattle.saved_files.specs.Folder.{Entries}
 use Rattle.database_files.specs.DatabaseFolder.{Tells}
 use Rattle.manifest.specs.declared.sums.Sums.{Sums}
 use Rattle.database_files.specs.Kept.{KeepsFoundLines, KeepsLines, KeepsLinesOf}

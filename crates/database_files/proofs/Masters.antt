@@ -1,9 +1,9 @@
 -- The master record that is found, and the checkpoint that it does not name.
-use Rattle.std.proofs.Common.{◌≡◌, ◌∙◌, ◌↔◌, Bool, false, IsTrue, not, refl, subst, sym, true, true≢false}
+use Rattle.std.proofs.Common.{◌≡◌, ◌∙◌, ◌↔◌, Bool, false, IsTrue, not, refl, sym, true, true≢false}
 use Rattle.std.specs.Prelude.{codes, None, Option, Some}
 use Rattle.log_records.specs.Log.{Log}
 use Rattle.log_store.specs.declared.master.Master.{Master}
-use Rattle.saved_files.specs.Folder.{Changes, Entries, FolderEntry, IsSame, absent}
+use Rattle.saved_files.specs.Folder.{Changes, Entries, IsSame, absent}
 use Rattle.database_files.specs.DatabaseFolder.{Tells}
 use Rattle.database_files.specs.Master.{IsOfRecords, TellsWrong, is_absent, spelled}
 use Rattle.database_files.specs.declared.found_master.FoundMaster.{FoundMaster}

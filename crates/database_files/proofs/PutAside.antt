@@ -1,7 +1,7 @@
 -- Files that an opening keeps, under their names or under others.
 use Rattle.std.proofs.Common.{◌≡◌, ◌∙◌, ◌++◌, ℕ, List, [], ap, append-nil, arith, false, get_or, inl, inr, refl, subst, sym, true, true≢false}
-use Rattle.std.specs.Prelude.{◌≢◌, ◌⊎◌, Bool, codes, decimal, Err, IfSome, None, OnErr, OnOk, Option, Result, Some}
-use Rattle.saved_files.specs.Folder.{Changes, Entries, IsRenamed, IsSame, KeepsOthers, RenamesOrKeeps, absent}
+use Rattle.std.specs.Prelude.{◌≢◌, Bool, codes, decimal, IfSome, None, Option, Some}
+use Rattle.saved_files.specs.Folder.{Changes, Entries, IsRenamed, IsSame, KeepsOthers, RenamesOrKeeps}
 use Rattle.saved_files.specs.Saved.{name_of}
 use Rattle.saved_files.specs.declared.saved_name.SavedName.TheVariants as saved
 use Rattle.database_files.specs.Closed.{IsWithoutNote, KeepsNote}

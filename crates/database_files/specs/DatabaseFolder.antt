@@ -1,7 +1,7 @@
 -- What the folder of a database tells of a name.
 use Rattle.std.specs.Prelude.{ℕ, ◌≡◌, ◌≢◌, ◌↔◌, ◌<◌, ◌≤◌, ◌⊎◌, Bool, true, false, codes, IfSome}
-use Rattle.std.specs.Prelude.{length, List, None, Option, Some, replicate, slice_index_or, take}
-use Rattle.std.specs.List.{Contains}
+use Rattle.std.specs.Prelude.{length, List, None, Option, Some, slice_index_or, take}
+use Rattle.std.specs.List.{All, Contains}
 use Rattle.log_records.specs.declared.limits.TheConstants.{HEADER_BYTES}
 use Rattle.saved_files.specs.Folder.{Entries, FolderEntry, absent, stored, unsynced}
 use Rattle.database_files.specs.declared.database_folder.Standing.{Standing}
@@ -104,17 +104,21 @@ OpensLog entries held (Some log) = IsLogIn entries held log
 abbrev pub AreFirstOf : Option (List ℕ) → List ℕ → Type 0
 AreFirstOf held bytes = IfSome held (λ all. bytes ≡ take (length bytes) all)
 
+-- these bytes are all zeros
+abbrev pub AreZeros : List ℕ → Type 0
+AreZeros bytes = All (λ byte. byte ≡ 0) bytes
+
 -- the file of a log, of which these bytes are known, and which has so many, has no header: it has
--- fewer bytes than that, or just as many zeros
+-- fewer bytes than that, or zeros alone
 abbrev pub IsHeadless : Option (List ℕ) → ℕ → Type 0
 IsHeadless held len =
-    (len < HEADER_BYTES) ⊎ ((len ≡ HEADER_BYTES) × AreFirstOf held (replicate HEADER_BYTES 0))
+    (len < HEADER_BYTES) ⊎ IfSome held (λ all. AreZeros (take len all))
 
 -- so it is with what stands there as the log, where it is known which bytes are stored
 abbrev pub IsHeadlessAt : FolderEntry → Type 0
 IsHeadlessAt absent = Unit {0}
 IsHeadlessAt unsynced = Unit {0}
-IsHeadlessAt (stored all) = (length all < HEADER_BYTES) ⊎ (all ≡ replicate HEADER_BYTES 0)
+IsHeadlessAt (stored all) = (length all < HEADER_BYTES) ⊎ AreZeros all
 
 abbrev pub HasHeadlessLog : Option Entries → Type 0
 HasHeadlessLog entries = IfSome entries (λ it. IsHeadlessAt (it (codes "log")))

@@ -1,10 +1,10 @@
 //! The file of a log.
 
-ghost use Rattle.std.specs.Prelude.{◌≡◌, true, IfOk, length};
+ghost use Rattle.std.specs.Prelude.{◌≡◌, true, IfOk, IsTrue, length};
 ghost use Rattle.engine_restart.specs.LogFile.{LastsOnFile};
 ghost use Rattle.log_prefix.specs.Front.{IsFrontOf};
 ghost use Rattle.log_rules.specs.Linked.{IsLinked};
-ghost use Rattle.database_files.specs.DatabaseFolder.{AreFirstOf, IsHeadless};
+ghost use Rattle.database_files.specs.DatabaseFolder.{AreFirstOf, AreZeros, IsHeadless};
 
 use crate::database_folder::{DatabaseFolder, LogFault};
 use crate::fault::OpenFault;
@@ -25,16 +25,33 @@ pub struct LogFile<L> {
 }
 
 /// Whether a log never had a header: it was cut off while it was made. A header is stored by one
-/// write, so after a loss of power its place may be there with zeros in it.
-pub fn is_headless<F: DatabaseFolder>(log: &LogFile<F::Log>) -> io::Result<bool>
+/// write, so after a loss of power its place, and that of records behind it, may be there with zeros
+/// in it.
+pub fn is_headless<F: DatabaseFolder>(
+    alloc: Global,
+    log: &LogFile<F::Log>,
+) -> Result<bool, OpenFault>
     ensures { IfOk result (λ is. is ≡ true → IsHeadless (F.held log.now.file) log.now.len) }
 {
-    if log.len != HEADER_BYTES as u64 {
-        return Ok(log.len < HEADER_BYTES as u64);
+    if log.len < HEADER_BYTES as u64 {
+        return Ok(true);
     }
     let mut header = [0; HEADER_BYTES];
-    F::log_begins(&log.file, &mut header)?;
-    Ok(header == [0; HEADER_BYTES])
+    if let Err(error) = F::log_begins(&log.file, &mut header) {
+        return Err(of_log(error));
+    }
+    if header != [0; HEADER_BYTES] {
+        return Ok(false);
+    }
+    let bytes = bytes_of::<F>(alloc, log)?;
+    Ok(are_zeros(&bytes))
+}
+
+/// Whether all bytes are zeros.
+fn are_zeros(bytes: &[u8]) -> bool
+    ensures { IsTrue result → AreZeros bytes.now }
+{
+    bytes.iter().all(|byte| *byte == 0)
 }
 
 pub fn of_log(error: io::Error) -> OpenFault {

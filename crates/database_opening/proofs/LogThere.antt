@@ -1,8 +1,7 @@
 -- The log that stands in a folder.
-use Rattle.std.proofs.Common.{◌≡◌, ◌∙◌, ◌≤◌, ℕ, Bool, List, [], ap, arith, inl, inr, length, slice_index_or, subst, sym, take}
+use Rattle.std.proofs.Common.{◌≡◌, ◌∙◌, ℕ, Bool, List, [], ap, arith, inl, inr, length, slice_index_or, subst, sym, take}
 use Rattle.std.specs.Prelude.{codes, Err, IfOk, IfSome, None, Ok, Option, Result, Some}
-use Rattle.std.specs.Prelude.{replicate}
-use Rattle.std.proofs.lemmas.List.{length-replicate, take_all}
+use Rattle.std.proofs.lemmas.List.{take_all}
 use Rattle.engine_rules.specs.EngineState.{EngineState}
 use Rattle.fuzzy_ckpt.specs.declared.point.Point.{Point}
 use Rattle.log_store.specs.Master.{SpellsMaster}
@@ -15,8 +14,7 @@ use Rattle.database_files.specs.Closed.{SpellsNote}
 use Rattle.database_files.specs.Found.{AreFoundIn, IsCopyAt, IsFoundAt, IsFoundIn, SpellsManifest}
 use Rattle.database_files.specs.declared.closed_note.ClosedNote.{ClosedNote}
 use Rattle.database_files.specs.declared.found_copies.CopyFile.{CopyFile}
-use Rattle.log_records.specs.declared.limits.TheConstants.{HEADER_BYTES}
-use Rattle.database_files.specs.DatabaseFolder.{AreOf, AreFirstOf, HasHeadlessLog, HasLength, HasLogBytes, HasLogOf, HasNoOtherVolume, IsHeadless, IsHeadlessAt, IsVolume, IsWithoutLog, IsLogIn}
+use Rattle.database_files.specs.DatabaseFolder.{AreOf, AreFirstOf, AreZeros, HasHeadlessLog, HasLength, HasLogBytes, HasLogOf, HasNoOtherVolume, IsHeadless, IsHeadlessAt, IsVolume, IsWithoutLog, IsLogIn}
 use Rattle.database_opening.specs.Copies.{ids_unread}
 use Rattle.database_files.specs.Master.{IsUnnamed, TellsWrong}
 use Rattle.database_opening.specs.Opened.{Begins, BeginsAnew, GoesOnFromFile, HandsOn}
@@ -57,12 +55,6 @@ log_there (Some it) held log bytes is begins count =
 
 -- ---- a log that has no header
 
--- bytes that begin with as many zeros as they have are these
-zeros_alone : (n : ℕ) (zeros all : List ℕ) → length zeros ≡ n → length all ≡ n → zeros ≡ take (length zeros) all
-    → all ≡ zeros
-zeros_alone n zeros all many long first =
-    sym (first ∙ ap (λ (k : ℕ). take k all) many ∙ take_all n all (omega (arith, long)))
-
 headless_at : (there : FolderEntry) (held : Option (List ℕ)) (len : ℕ) → AreOf there held → HasLength there len
     → IsHeadless held len → IsHeadlessAt there
 unfolding IsNothing value_of
@@ -73,21 +65,14 @@ headless_at (stored all) (Some given) len are long none = elim none [
   | inl few ↦ inl (omega (arith, few, long))
   | inr zeros ↦
       let same : given ≡ all = ap value_of are in
-      let none_set : List ℕ = replicate HEADER_BYTES 0 in
-      inr (zeros_alone HEADER_BYTES none_set all (length-replicate {A = ℕ} HEADER_BYTES 0)
-      (sym long ∙ zeros.0) (zeros.1 ∙ ap (take (length none_set)) same))
+      inr (subst AreZeros (ap (λ (n : ℕ). take n given) long ∙ ap (take (length all)) same
+      ∙ take_all (length all) all (omega arith)) zeros)
 ]
 
 pub headless_there : {L : Type 0} (entries : Option Entries) (held : L → Option (List ℕ)) (log : LogFile L)
     → IsLogIn entries held log → IsHeadless (held log.file) log.len → HasHeadlessLog entries
 headless_there None held log is none = tt
 headless_there (Some it) held log is none = headless_at (it (codes "log")) (held log.file) log.len is.0 is.1 none
-
-pub headless_few : (held : Option (List ℕ)) (len : ℕ) → IsHeadless held len → len ≤ HEADER_BYTES
-headless_few held len none = elim none [
-  | inl few ↦ omega (arith, few)
-  | inr zeros ↦ omega (arith, zeros.0)
-]
 
 -- a new one is made, where the log has no header
 pub headless_anew : {L T E : Type 0} (r : Result T E) (first : T → FirstLine) (state : T → EngineState)
@@ -96,7 +81,7 @@ pub headless_anew : {L T E : Type 0} (r : Result T E) (first : T → FirstLine) 
     → IfOk r (λ it. BeginsAnew entries told frames (first it) (state it))
     → IfOk r (λ it. Begins entries is_salvage (Some log.len) ids told frames (first it) (state it))
 headless_anew (Ok it) first state entries held log is_salvage ids told frames there none new =
-    inl (there.1, headless_few (held log.file) log.len none, headless_there entries held log there none, new)
+    inl (there.1, headless_there entries held log there none, new)
 headless_anew (Err why) first state entries held log is_salvage ids told frames there none new = tt
 
 -- ---- a folder that is left as it was
@@ -197,7 +182,7 @@ pub begins_same : (old mid : Option Entries) (is_salvage : Bool) (log : Option �
 begins_same old mid is_salvage None ids told frames first engine same begins =
     (no_log_same old mid same begins.0, anew_same old mid told frames first engine same begins.1)
 begins_same old mid is_salvage (Some len) ids told frames first engine same begins = elim begins [
-  | inl new ↦ inl (log_of_same old mid len same new.0, new.1, headless_same old mid same new.2, anew_same old mid told frames first engine same new.3)
+  | inl new ↦ inl (log_of_same old mid len same new.0, headless_same old mid same new.1, anew_same old mid told frames first engine same new.2)
   | inr it ↦ inr (goes_on_same old mid is_salvage len ids told frames first engine same it)
 ]
 

@@ -1,5 +1,5 @@
 -- How a database begins a life.
-use Rattle.std.specs.Prelude.{ℕ, ◌≡◌, ◌≤◌, ◌⊎◌, Bool, false, List, [], IfSome, IsSomeAnd, None}
+use Rattle.std.specs.Prelude.{ℕ, ◌≡◌, ◌⊎◌, Bool, false, List, [], IfSome, IsSomeAnd, None}
 use Rattle.std.specs.Prelude.{Option, Some, length, map}
 use Rattle.std.specs.List.Sorted.{IsNonDecreasing}
 use Rattle.engine_restart.specs.Lives.{GoesOnFrom}
@@ -9,7 +9,6 @@ use Rattle.fuzzy_ckpt.specs.declared.point.Point.{Point}
 use Rattle.log_prefix.specs.Front.{IsFrontOf, end_of}
 use Rattle.log_prefix.specs.declared.cut.Cut.{Cut}
 use Rattle.log_records.specs.Log.{Log, page_count}
-use Rattle.log_records.specs.declared.limits.TheConstants.{HEADER_BYTES}
 use Rattle.log_store.specs.declared.master.Master.{Master}
 use Rattle.manifest.specs.Entries.{Listed}
 use Rattle.saved_files.specs.Folder.{Entries}
@@ -89,7 +88,7 @@ abbrev pub Begins : Option Entries → Bool → Option ℕ → List ℕ → Opti
 Begins entries is_salvage None ids told frames first engine =
     IsWithoutLog entries × BeginsAnew entries told frames first engine
 Begins entries is_salvage (Some len) ids told frames first engine =
-    (HasLogOf entries len × (len ≤ HEADER_BYTES) × HasHeadlessLog entries
+    (HasLogOf entries len × HasHeadlessLog entries
     × BeginsAnew entries told frames first engine)
     ⊎ GoesOnFromFile entries is_salvage len ids told frames first engine
 

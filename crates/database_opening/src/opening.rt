@@ -27,7 +27,7 @@ use crate::volume_file::check_volume;
 use aries_core::Setup;
 use database_files::{
     DatabaseFolder, Diagnostics, Inventory, LogFile, MANIFEST, OpenFault, Place, is_headless,
-    log_line, name_for, of_log, read_manifest,
+    log_line, name_for, read_manifest,
 };
 use log_records::HEADER_BYTES;
 use manifest::Manifest;
@@ -112,10 +112,10 @@ fn open_from<F: DatabaseFolder>(
     let Some(log) = log else {
         return begun(diagnostics, folder, call, None, there);
     };
-    match is_headless::<F>(&log) {
+    match is_headless::<F>(diagnostics.alloc, &log) {
         Ok(true) => begun(diagnostics, folder, call, Some(log.file), there),
         Ok(false) => reopen(diagnostics, folder, call, log, there),
-        Err(error) => Err(of_log(error)),
+        Err(fault) => Err(fault),
     }
 }
 
