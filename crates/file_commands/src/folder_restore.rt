@@ -18,7 +18,7 @@ use file_inputs::{
     InputNames, chain_of, checks_and_master, is_irregular, newest_chain, tell_irregular,
 };
 use file_view::{CopyHeader, ViewFault};
-use folder_reports::{Reach, SystemReader, Trouble, TroubleLine, noted_reach};
+use folder_reports::{Reach, SystemReader, Trouble, TroubleLine, noted_reach, read_log};
 use media_restore::RestoreFault;
 use page_core::Lsn;
 use script_run::{FAULT_STATUS, restore_status};
@@ -131,7 +131,8 @@ fn restored(
 }
 
 /// Tells that the log of a folder ends below where the note of its closing says that it ended, and
-/// answers the program's status. A log that counts up to a record may end behind that.
+/// answers the program's status. A log that counts up to a record may end behind that, and the fault
+/// of one that is none is for the restore to tell.
 fn short_log(rt: &HostRuntime, wanted: &FolderRestore<'_>) -> Option<ExitCode>
     ensures { IfSome result (λ status. exit_status status ≤ 2) }
 {
@@ -139,18 +140,22 @@ fn short_log(rt: &HostRuntime, wanted: &FolderRestore<'_>) -> Option<ExitCode>
     if wanted.until.is_some() {
         return None;
     }
-    let Ok(Reach::Short { bytes, noted }) = noted_reach(rt.alloc(), &SystemReader { rt, folder })
-    else {
+    let files = &SystemReader { rt, folder };
+    let Ok(Reach::Short { bytes, noted }) = noted_reach(rt.alloc(), files) else {
         return None;
     };
+    if read_log(rt.alloc(), files).is_err() {
+        return None;
+    }
     let trouble = &Trouble::Ends { bytes, noted };
-    let status = told(rt, &RestoreFault::BadChain(Lsn(bytes)));
+    let fault = RestoreFault::BadChain(Lsn(bytes));
+    let _ = rt.eprintln(&fault);
     let _ = rt.eprintln(&TroubleLine {
         folder,
         manifest,
         trouble,
     });
-    Some(status)
+    Some(ExitCode::from(restore_status(&fault)))
 }
 
 /// Whether the log or the master record of a folder is no regular file, which is told.

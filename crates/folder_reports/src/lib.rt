@@ -23,7 +23,7 @@ pub use by_name::ByName;
 pub use copies::{copy_header, copy_ids};
 pub use folder_files::DatabaseFiles;
 pub use list::list_folder;
-pub use log_end::{Reach, noted_reach};
+pub use log_end::{Reach, noted_reach, read_log};
 pub use report::FolderReport;
 pub use system_reader::SystemReader;
 pub use trouble::{Trouble, TroubleLine};

@@ -54,8 +54,8 @@ pub(crate) fn log_reaches<F: DatabaseFiles>(folder: &F, note: Option<ClosedNote>
     }
 }
 
-/// Reads the log of a folder, which has to be one to its end.
-pub(crate) fn read_log<F: DatabaseFiles>(alloc: Global, folder: &F) -> Result<(), Unread>
+/// Reads the log of a folder, which has to be one to its end. At `Err` it is none, or cannot be read.
+pub fn read_log<F: DatabaseFiles>(alloc: Global, folder: &F) -> Result<(), Unread>
     ensures { OnOk result (IsWhole (bytes_in (F.entries folder.now) LOG.now)) }
 {
     match opened(folder, LOG) {
