@@ -81,7 +81,7 @@ def check_new(program):
                    f"imgcopy: {folder}/log: its volume has 6 pages, and --pages says 4")
     program.check("the present count", program.run(folder, "--pages", "6"), 0,
                   "restarted: log cut at 128, 0 transactions taken back, 1 record\n")
-    for data in (b"", b"AIMGLOG2", bytes(63), bytes(64)):
+    for data in (b"", b"AIMGLOG2", bytes(63), bytes(64), bytes(65), bytes(128)):
         folder = program.folder(log=data)
         program.check(f"a log of {len(data)} bytes", program.run(folder, "--pages", "1"), 0, "new: 1 page\n")
         if contents(folder)["log"] != encode_header(1):
@@ -98,7 +98,7 @@ def check_refusals(program):
     for what, data in (("other bytes", b"x" * 64), ("a text", b"a text of another program\n" * 9),
                        ("an archive", ARCHIVE_MAGIC + bytes(56)), ("no pages", encode_header(0)),
                        ("a log of the first format", encode_header(2, b"AIMGLOG1")),
-                       ("65 zero bytes", bytes(65))):
+                       ("zero bytes and another one", bytes(65) + b"x")):
         folder = program.folder(log=data)
         program.refuse(f"{what} as the log", folder, ["--pages", "2"], "E30 BadHeader",
                        f"imgcopy: {folder}/log: it has no header of a log of format 2")
