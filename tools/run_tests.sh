@@ -230,6 +230,7 @@ run_own_checks() {
     check open_words "$program" python3 -- python3 -m checks.open_words "$program"
     check folders "$program" python3 -- python3 -m checks.folders "$program"
     check restore_folder "$program" python3 -- python3 -m checks.restore_folder "$program"
+    check doubts "$program" python3 -- python3 -m checks.doubts "$program"
     check open_losses "$program" python3 -- python3 -m checks.open_losses "$program"
     check open_kills "$program" python3 -- python3 -m checks.open_kills "$program"
     check open_flips "$program" python3 -- python3 -m checks.open_flips "$program"
