@@ -120,10 +120,9 @@ class Life:
                 self.left_out = before.left_out()
                 self.said.append(f"{self.folder}/log: they are now {self.left_out}")
         self.said += [f"{self.folder}/copy-{number}: {why}" for number, why in again.refused.items()]
-        unused = {f"copy-{number}" for number in again.refused}
         self.said += [f"{self.folder}/manifest: the line of `{name}` is dropped"
                       for name, _, _ in lines_of(before.manifest or b"")
-                      if "manifest" not in self.moved and (name in unused or name not in before.all or name in self.moved)]
+                      if "manifest" not in self.moved and (name not in before.all or name in self.moved)]
         if before.master is not None and not is_master_of(before.master, again.front.records):
             self.master_aside = before.aside("master")
 
@@ -338,8 +337,8 @@ class Life:
             check_point(after.master, self.engine.log, max(ends))
 
     def check_manifest(self, after, told, kind):
-        """Each line is that of a file of this life, but for the master record where the log has grown since, and for all
-        lines as long as nothing was told. Behind the end of a life all of the log is named. The database keeps its name,
+        """Each line is that of a file of this life, but for the master record where the log has grown since, for a copy that
+        was not taken up, and for all lines as long as nothing was told. Behind the end of a life all of the log is named. The database keeps its name,
         but for one that is drawn."""
         if after.manifest is None:
             if self.before.manifest is not None and "manifest" not in self.moved:
@@ -348,7 +347,8 @@ class Life:
         heads = [data.splitlines()[0] for data in (self.before.manifest, after.manifest) if data]
         if len({*heads}) != 1:
             raise Failure(f"the manifest begins with {heads}")
-        lines, older = lines_of(after.manifest), [] if told else lines_of(self.before.manifest or b"")
+        lines, refused = lines_of(after.manifest), {f"copy-{number}" for number in self.refused}
+        older = [line for line in lines_of(self.before.manifest or b"") if not told or line[0] in refused]
         named = [count for name, count, _ in lines if name == "log"]
         if kind == AT_ITS_END and named != [len(after.log)]:
             raise Failure(f"the manifest names {named} bytes of the log, and it has {len(after.log)}")
