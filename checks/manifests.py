@@ -611,24 +611,24 @@ def without(files, *names):
 
 
 def check_dropped(folder):
-    """The lines of files that are gone are dropped and told before the first call; those of copies that are not taken up stay."""
+    """The lines of files that are gone are dropped and told before the first call; that of a copy that is not sound stays."""
     files = database(folder, LIFE + b"copy\ncopy on 2\n")
-    for what, other, names, told in (
-            ("a copy is gone", {"copy-1": None}, ["copy-1"], []),
-            ("two copies are gone", {"copy-2": None, "copy-3": None}, ["copy-2", "copy-3"], []),
-            ("a copy is cut", {"copy-3": files["copy-3"][:-1]}, [], ["copy-3: no archive begins like this"]),
-            ("the copy below is gone", {"copy-2": None}, ["copy-2"],
-             ["copy-3: the copy that it stands on was not taken up"]),
-            ("the master record is gone", {"master": None}, ["master"], [])):
+    for what, other, told in (
+            ("a copy is gone", {"copy-1": None}, []),
+            ("two copies are gone", {"copy-2": None, "copy-3": None}, []),
+            ("a copy is cut", {"copy-3": files["copy-3"][:-1]}, ["copy-3: no archive begins like this"]),
+            ("the copy below is gone", {"copy-2": None}, ["copy-3: the copy that it stands on was not taken up"]),
+            ("the master record is gone", {"master": None}, [])):
+        gone = [name for name, data in other.items() if data is None]
         some = {name: other.get(name, data) for name, data in files.items() if other.get(name, data) is not None}
         folder.fill(without(some, "closed"))
-        lines = [*told, *(f"manifest: the line of `{name}` is dropped" for name in names)]
+        lines = [*told, *(f"manifest: the line of `{name}` is dropped" for name in gone)]
         done = killed(folder, [])
         after = all_of(folder)
         text = "".join(f"imgcopy: ./{line}\n" for line in lines)
         if sorted(done.stderr.decode().splitlines()) != sorted(text.splitlines()):
             raise Failure(f"{what}: {done.stderr[:300]!r}, and {text!r} is wanted")
-        named = {name: files[name] if other.get(name) else data for name, data in named_in(after).items()}
+        named = named_in(after) | {name: files[name] for name in other if name not in gone}
         if not is_manifest_of(after["manifest"], named):
             raise Failure(f"{what}: the manifest is {after['manifest']!r}")
         done = folder.run("open", ".")

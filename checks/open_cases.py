@@ -81,11 +81,12 @@ def check_new(program):
                    f"imgcopy: {folder}/log: its volume has 6 pages, and --pages says 4")
     program.check("the present count", program.run(folder, "--pages", "6"), 0,
                   "restarted: log cut at 128, 0 transactions taken back, 1 record\n")
-    for data in (b"", b"AIMGLOG2", bytes(63), bytes(64), bytes(65), bytes(128)):
+    for data in (b"", b"AIMGLOG2", bytes(63), bytes(64), bytes(65), bytes(128), bytes(4_096)):
         folder = program.folder(log=data)
         program.check(f"a log of {len(data)} bytes", program.run(folder, "--pages", "1"), 0, "new: 1 page\n")
         if contents(folder)["log"] != encode_header(1):
             raise Failure(f"a log of {len(data)} bytes was not made anew")
+    check_old_volume(program)
     folder = program.folder()
     (folder / "lost+found").mkdir()
     program.check("the top of a file system", program.run(folder, "--pages", "1"), 0, "new: 1 page\n")
@@ -94,11 +95,28 @@ def check_new(program):
                    f"imgcopy: {missing}: {NOT_THERE}")
 
 
+def check_old_volume(program):
+    """A volume with a change beside a log that was emptied: the log had the change once."""
+    fresh = b"".join(page.to_bytes(4, "little") + b"\1\0\0\0" + bytes(504) for page in range(2))
+    for data in (b"", bytes(64), bytes(640)):
+        folder = program.folder(log=data, volume=fresh)
+        program.check("a volume with no change", program.run(folder, "--pages", "2"), 0, "new: 2 pages\n")
+        for place in (8, 16, 511, 512 + 8, 1_023):
+            changed = fresh[:place] + b"\x40" + fresh[place + 1:]
+            folder = program.folder(log=data, volume=changed)
+            program.refuse("a volume with a change and no header", folder, ["--pages", "2"], "E33 ReadFault",
+                           f"imgcopy: {folder}/volume: this is there, but no log")
+            program.check("and with --salvage", program.run(folder, "--pages", "2", "--salvage"), 0, "new: 2 pages\n",
+                          f"imgcopy: {folder}/volume: what stood there is now volume.left-out-1 too")
+            if contents(folder)["volume.left-out-1"] != changed:
+                raise Failure("the volume that stood there is not kept")
+
+
 def check_refusals(program):
     for what, data in (("other bytes", b"x" * 64), ("a text", b"a text of another program\n" * 9),
                        ("an archive", ARCHIVE_MAGIC + bytes(56)), ("no pages", encode_header(0)),
                        ("a log of the first format", encode_header(2, b"AIMGLOG1")),
-                       ("zero bytes and another one", bytes(65) + b"x")):
+                       ("zeros and then another byte", bytes(127) + b"x")):
         folder = program.folder(log=data)
         program.refuse(f"{what} as the log", folder, ["--pages", "2"], "E30 BadHeader",
                        f"imgcopy: {folder}/log: it has no header of a log of format 2")
