@@ -76,7 +76,7 @@ def has_log(data):
 
 def is_headless(data):
     """Whether a log's file was cut off before it had its header: no byte of it is missed."""
-    return len(data) < HEADER_SIZE or data == bytes(HEADER_SIZE)
+    return len(data) < HEADER_SIZE or not any(data)
 
 
 def closed_at(note):
@@ -240,7 +240,9 @@ def reopen(data, copies, frames=MOST_FRAMES):
             add_copy(engine, number, archive)
         except NotTaken as why:
             refused[number] = str(why)
-    engine.unread = {number for number, archive in copies.items() if archive is None}
+    unread = {number for number, archive in copies.items() if archive is None}
+    # A copy behind one of these may stand on it.
+    engine.unread = {number for number in copies if unread and number >= min(unread)}
     line = f"restarted: log cut at {front.end()}, {counted(open_ones, 'transaction')} taken back," \
            f" {counted(len(log), 'record')}"
     return Reopened(engine, front, line, refused)
