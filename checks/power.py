@@ -22,7 +22,7 @@ CUTS = 2000
 SEEDS_OF_A_RUN = 100
 IGNORED = ("log", "files", "names")
 FOUND = re.compile(r"seed \d+: in a folder [^\n]+\n")
-LINE = re.compile(r"cuts (\d+) lives (\d+) commits (\d+) copies (\d+) strange (\d+) folders (\d+) refused (\d+)\n")
+LINE = re.compile(r"cuts (\d+) lives (\d+) closed (\d+) commits (\d+) copies (\d+) strange (\d+) folders (\d+) refused (\d+)\n")
 
 
 class Failure(Exception):
@@ -30,7 +30,7 @@ class Failure(Exception):
 
 
 def play(program, seeds, first):
-    """The seven counts of a run."""
+    """The eight counts of a run."""
     done = subprocess.run(
         [program, str(seeds), str(first)], stdin=subprocess.DEVNULL, capture_output=True, text=True
     )
@@ -60,7 +60,7 @@ def main(arguments):
         runs = range(first, first + seeds, SEEDS_OF_A_RUN)
         with ThreadPoolExecutor(os.cpu_count()) as pool:
             counts = list(pool.map(lambda at: play(program, min(SEEDS_OF_A_RUN, first + seeds - at), at), runs))
-        cuts, lives, commits, copies, strange, folders, refused = map(sum, zip(*counts, [0] * 7))
+        cuts, lives, closed, commits, copies, strange, folders, refused = map(sum, zip(*counts, [0] * 8))
         if len(arguments) == 1 and min(cuts, commits, copies, folders) < CUTS:
             raise Failure(f"there were only {cuts} cuts, {commits} commits, {copies} copies and {folders} folders")
         for sync in IGNORED:

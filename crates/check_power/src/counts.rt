@@ -1,12 +1,14 @@
 //! How much was played.
 
-/// How many cuts, lives, commits and restored copies there were, and after how many cuts a torn write
+/// How many cuts, lives, commits and restored copies there were, how many lives went on from a log
+/// that was closed and is not stored again, and after how many cuts a torn write
 /// had spelled a record that nobody wrote; how many folders were looked at behind a cut or the end of a
 /// process, and how many of them were refused.
 #[derive(Clone, Copy, Default)]
 pub struct Counts {
     pub cuts: u64,
     pub lives: u64,
+    pub closed: u64,
     pub commits: u64,
     pub copies: u64,
     pub strange: u64,
@@ -23,6 +25,11 @@ impl Counts {
     /// A life has ended.
     pub fn lived(&mut self) {
         self.lives = self.lives.saturating_add(1);
+    }
+
+    /// A life goes on from a log that was closed, and is not stored again.
+    pub fn went_on(&mut self) {
+        self.closed = self.closed.saturating_add(1);
     }
 
     /// So many commits were answered.

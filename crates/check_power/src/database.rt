@@ -32,6 +32,8 @@ pub struct Database {
     copies: Copies,
     expected: Expected,
     has_lived: bool,
+    /// The last life has ended with all of its log forced, as a closing leaves it.
+    is_closed: bool,
 }
 
 impl Database {
@@ -43,6 +45,7 @@ impl Database {
             copies: Copies::new(alloc),
             expected: Expected::new(alloc, pages)?,
             has_lived: false,
+            is_closed: false,
         })
     }
 
@@ -95,6 +98,7 @@ impl Database {
                 Opening::Engine(engine) => return Ok(engine),
                 Opening::Cut(bytes) => self.bytes = bytes,
             }
+            self.is_closed = false;
             counts.cut();
         }
         Err(Wrong::NotOpened)
@@ -116,7 +120,14 @@ impl Database {
             return begin(alloc, setup, drive_of(alloc, &[], trouble)?, chance);
         }
         let drive = drive_of(alloc, &self.bytes, trouble)?;
-        match restart_on(alloc, &self.bytes, drive, &self.lost, chance)? {
+        match restart_on(
+            alloc,
+            &self.bytes,
+            drive,
+            &self.lost,
+            self.is_closed,
+            chance,
+        )? {
             Restart::Done(ready) => self.go_on(rt, alloc, setup, ready, counts),
             Restart::Cut(bytes) => {
                 self.note_restart(alloc, chance)?;
@@ -128,7 +139,7 @@ impl Database {
     /// The power was cut while a restart stored its records: notes which these are.
     fn note_restart(&mut self, alloc: Global, chance: &mut Chance) -> Result<(), Wrong> {
         let drive = drive_of(alloc, &self.bytes, Trouble::NONE)?;
-        match restart_on(alloc, &self.bytes, drive, &self.lost, chance)? {
+        match restart_on(alloc, &self.bytes, drive, &self.lost, false, chance)? {
             Restart::Done(ready) => {
                 self.lost = ready.lost(alloc)?;
                 Ok(())
@@ -148,6 +159,9 @@ impl Database {
         requires { IsFrameCount setup.frames }
     {
         let mut ready = ready;
+        if ready.is_read {
+            counts.went_on();
+        }
         self.compare(rt, alloc, &mut ready, counts)?;
         let engine = ready.into_engine(alloc, setup.frames)?;
         Ok(Opening::Engine(engine))
@@ -177,7 +191,7 @@ impl Database {
         Ok(())
     }
 
-    /// Makes calls of an engine, and cuts its power.
+    /// Makes calls of an engine, forces its log now and then, as a closing does, and cuts its power.
     fn play(
         &mut self,
         alloc: Global,
@@ -186,6 +200,7 @@ impl Database {
     ) -> Result<(LostLog, Vec<u8>), Wrong> {
         let mut engine = engine;
         let lived = self.make_calls(alloc, &mut engine, chance);
+        self.is_closed = chance.one_in(4) && engine.force().is_ok();
         let lost = lose(alloc, engine, chance);
         lived?;
         lost

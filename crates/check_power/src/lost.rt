@@ -1,7 +1,7 @@
 //! What a cut of the power leaves of an engine.
 
 use crate::chance::Chance;
-use crate::drive::{Drive, LogEngine};
+use crate::drive::{Drive, LogEngine, crashes_leave_what_is_forced};
 use crate::step::Grain;
 use crate::wrong::Wrong;
 use log_records::Record;
@@ -78,6 +78,7 @@ pub fn lose(
     engine: LogEngine,
     chance: &mut Chance,
 ) -> Result<(LostLog, Vec<u8>), Wrong> {
+    crashes_leave_what_is_forced(&engine);
     let (retired, store, device) = engine.into_parts();
     drop(store);
     let forced = retired.forced_end().records_below();

@@ -156,6 +156,7 @@ fn main(rt: HostRuntime) -> ExitCode {
     let Counts {
         cuts,
         lives,
+        closed,
         commits,
         copies,
         strange,
@@ -163,7 +164,7 @@ fn main(rt: HostRuntime) -> ExitCode {
         refused,
     } = counts;
     let _ = println!(rt;
-        "cuts {cuts} lives {lives} commits {commits} copies {copies} strange {strange} folders {folders} refused {refused}"
+        "cuts {cuts} lives {lives} closed {closed} commits {commits} copies {copies} strange {strange} folders {folders} refused {refused}"
     );
     ExitCode::SUCCESS
 }

@@ -1,17 +1,16 @@
 //! Opens what a cut of the power has left of a log, as `imgcopy open` does.
 
-ghost use Rattle.std.specs.Prelude.{◌≡◌, IsTrue, take};
+ghost use Rattle.std.specs.Prelude.{◌≡◌, IsTrue};
 ghost use Rattle.buffer_pool.specs.Pool.{IsFrameCount};
 ghost use Rattle.engine_restart.specs.LogFile.{LastsOnFile};
-ghost use Rattle.log_prefix.specs.Front.{end_of};
-ghost use Rattle.log_records.specs.Log.{IsPageCount, log_bytes};
+ghost use Rattle.log_records.specs.Log.{IsPageCount};
 
 use crate::chance::Chance;
 use crate::drive::{Drive, LogEngine};
 use crate::lost::{LostLog, left_of};
 use crate::wrong::Wrong;
 use aries_core::{Engine, Setup};
-use engine_restart::{Restarted, log_in, restart, store_of};
+use engine_restart::{FoundLog, Restarted, log_on, restart, store_of};
 use file_devices::FileLog;
 use fuzzy_ckpt::LogCheckpoints;
 use log_prefix::Front;
@@ -46,6 +45,8 @@ pub struct Ready {
     pub found: usize,
     /// One of them is a record that nobody wrote.
     pub is_strange: bool,
+    /// They were read, and not stored again.
+    pub is_read: bool,
     ghost lasting: { LastsOnFile restarted.log device },
 }
 
@@ -71,28 +72,32 @@ pub fn begin(
 }
 
 /// Reads the log that a disk with these bytes has, compares it with the one that was lost, stores it
-/// again, and takes back what is open in it.
+/// again, unless it was closed, and takes back what is open in it.
 pub fn restart_on(
     alloc: Global,
     bytes: &[u8],
     drive: Drive,
     lost: &LostLog,
+    is_closed: bool,
     chance: &mut Chance,
 ) -> Result<Restart, Wrong>
     requires { IsTrue (⟦<Drive as Disk>⟧.is_usable drive) }
 {
     let mut read = zeros(alloc, bytes.len())?;
-    let Ok(mut device) = FileLog::found(alloc, drive, &mut read) else {
+    let Ok(device) = FileLog::found(alloc, drive, &mut read) else {
         return Ok(Restart::Cut(Vec::from_slice(alloc, bytes)?));
     };
-    let Ok(front) = log_in(alloc, &read) else {
+    let Ok(mut there) = log_on(alloc, read, device) else {
         return Err(Wrong::NotOpened);
     };
-    let records = front.log().records();
+    let records = there.front.log().records();
     lost.check_forced(records)?;
     let (found, is_strange) = (records.len(), lost.is_strange(records));
-    let master = master_of(&front);
-    if !keep(&mut device, &front, &read) {
+    let master = master_of(&there.front);
+    let is_read = is_closed && there.front.cut().is_none();
+    let is_kept = keep(&mut there, is_read);
+    let FoundLog { front, device, .. } = there;
+    if !is_kept {
         return cut_off(alloc, device, chance);
     }
     match restart(alloc, front, device) {
@@ -102,21 +107,20 @@ pub fn restart_on(
             master,
             found,
             is_strange,
+            is_read,
         })),
         Err((_, device)) => cut_off(alloc, device, chance),
     }
 }
 
-/// Stores the log again, and has it alone last on its disk. Answers whether it does.
-fn keep(device: &mut FileLog<Drive>, front: &Front, bytes: &[u8]) -> bool
-    requires { take (end_of front.now.log) bytes.now ≡ log_bytes front.now.log }
-    ensures { IsTrue result → LastsOnFile front.now.log device.new }
+/// Stores the log again, and has it alone last on its disk, unless it is to be taken as it was read.
+/// Answers whether it lasts.
+fn keep(there: &mut FoundLog<FileLog<Drive>>, is_read: bool) -> bool
+    requires { LastsOnFile there.old.front.log there.old.device }
+    ensures front { there.new.front ≡ there.old.front }
+    ensures lasting { IsTrue result → LastsOnFile there.new.front.log there.new.device }
 {
-    let end = front.log().end().0 as usize;
-    match bytes.get(..end) {
-        Some(front) => device.keep(front).is_ok(),
-        None => false,
-    }
+    is_read || there.keep_front().is_ok()
 }
 
 fn cut_off(alloc: Global, device: FileLog<Drive>, chance: &mut Chance) -> Result<Restart, Wrong> {

@@ -1,6 +1,8 @@
 //! A machine in memory on which a database lives, whose power is cut, and whose calls fail.
 #![tactic(auto)]
 
+#[cfg(test)]
+mod closings;
 mod cut;
 mod disk;
 mod draw;

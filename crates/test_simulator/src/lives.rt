@@ -18,31 +18,41 @@ const PAGES: u32 = 4;
 
 const SLOTS: u64 = 4;
 
+/// How many transactions a life has.
+pub(crate) const TXNS: u64 = 8;
+
 /// How many numbers are looked at.
-const NUMBERS: usize = 16;
+pub(crate) const NUMBERS: usize = 16;
 
 /// What the numbers are behind a commit, which is that of this line.
 #[derive(Clone, Copy)]
-struct Committed {
+pub(crate) struct Committed {
     line: usize,
-    numbers: [u64; NUMBERS],
+    pub numbers: [u64; NUMBERS],
 }
 
 /// The lines of a life, and what its commits leave.
 #[derive(Drop)]
-struct Plan {
-    script: String,
-    commits: Vec<Committed>,
+pub(crate) struct Plan {
+    pub script: String,
+    pub commits: Vec<Committed>,
 }
 
-/// Transactions one after another, and now and then a checkpoint or a copy.
-fn plan_of(alloc: Global, draw: &mut Draw) -> io::Result<Plan> {
+/// Transactions one after another, from this one on, and now and then a checkpoint or a copy. These
+/// are the numbers before them.
+pub(crate) fn plan_from(
+    alloc: Global,
+    draw: &mut Draw,
+    first: u64,
+    before: [u64; NUMBERS],
+) -> io::Result<Plan> {
     let mut script = String::new(alloc);
     let mut commits = Vec::new(alloc);
-    let mut numbers = [0; NUMBERS];
+    let mut numbers = before;
     commits.push(Committed { line: 0, numbers })?;
     let mut line = 0usize;
-    for txn in 1..=8u64 {
+    for count in 0..TXNS {
+        let txn = first.saturating_add(count);
         script.push_str("begin\n")?;
         for _ in 0..=draw.below(3) {
             let (page, slot, value) = (draw.below(PAGES as u64), draw.below(SLOTS), draw.next());
@@ -73,7 +83,7 @@ fn plan_of(alloc: Global, draw: &mut Draw) -> io::Result<Plan> {
 }
 
 /// Lines that read each number.
-fn reads(alloc: Global) -> io::Result<String> {
+pub(crate) fn reads(alloc: Global) -> io::Result<String> {
     let mut script = String::new(alloc);
     for page in 0..PAGES {
         for slot in 0..SLOTS {
@@ -84,7 +94,11 @@ fn reads(alloc: Global) -> io::Result<String> {
 }
 
 /// A life of the database on a machine.
-fn life(alloc: Global, remains: Remains, script: &str) -> io::Result<(OpenEnd, Remains)> {
+pub(crate) fn life(
+    alloc: Global,
+    remains: Remains,
+    script: &str,
+) -> io::Result<(OpenEnd, Remains)> {
     let Remains { first, now } = remains;
     let machine = Machine::new(now);
     let call = OpenCall {
@@ -106,7 +120,7 @@ fn life(alloc: Global, remains: Remains, script: &str) -> io::Result<(OpenEnd, R
 }
 
 /// All that was told in these steps.
-fn told_in(alloc: Global, steps: &[Step]) -> io::Result<Vec<u8>> {
+pub(crate) fn told_in(alloc: Global, steps: &[Step]) -> io::Result<Vec<u8>> {
     let mut told = Vec::new(alloc);
     for step in steps {
         if let Step::Told { bytes } = step {
@@ -116,12 +130,12 @@ fn told_in(alloc: Global, steps: &[Step]) -> io::Result<Vec<u8>> {
     Ok(told)
 }
 
-fn line_count(told: &[u8]) -> usize {
+pub(crate) fn line_count(told: &[u8]) -> usize {
     told.iter().filter(|byte| **byte == b'\n').count()
 }
 
 /// The numbers that were answered to `reads`.
-fn numbers_in(told: &[u8]) -> [u64; NUMBERS] {
+pub(crate) fn numbers_in(told: &[u8]) -> [u64; NUMBERS] {
     let mut numbers = [0; NUMBERS];
     let mut place = 0usize;
     for line in std::str::from_utf8(told).unwrap_or("").lines() {
@@ -136,7 +150,7 @@ fn numbers_in(told: &[u8]) -> [u64; NUMBERS] {
 }
 
 /// Whether these numbers are those behind the last commit that was answered, or behind the next one.
-fn are_kept(commits: &[Committed], answered: usize, numbers: &[u64; NUMBERS]) -> bool {
+pub(crate) fn are_kept(commits: &[Committed], answered: usize, numbers: &[u64; NUMBERS]) -> bool {
     let mut last = 0usize;
     for (place, commit) in commits.iter().enumerate() {
         if commit.line < answered {
@@ -171,7 +185,7 @@ fn is_kept_at(alloc: Global, plan: &Plan, lived: &Remains, draw: &mut Draw) -> i
 /// The first cut of a seed that loses a commit.
 fn lost_at(alloc: Global, seed: u64) -> io::Result<Option<u64>> {
     let mut draw = Draw::new(seed);
-    let plan = plan_of(alloc, &mut draw)?;
+    let plan = plan_from(alloc, &mut draw, 1, [0; NUMBERS])?;
     let (end, lived) = life(alloc, Remains::new(alloc), plan.script.as_str())?;
     if end != OpenEnd::Well {
         return Err(io::Error::from(ErrorKind::Other));
