@@ -5,7 +5,7 @@ ghost use Rattle.std.specs.Prelude.{ℕ, IfSome, MatchOption};
 ghost use Rattle.std.specs.Process.{exit_status};
 ghost use Rattle.file_inputs.specs.CopyChain.{HasChain, IsNewestChain, IsWholeChain};
 ghost use Rattle.file_commands.specs.FolderChains.{from_full};
-ghost use Rattle.file_commands.specs.Statuses.{IsEnd};
+ghost use Rattle.file_commands.specs.Statuses.{IsEnd, IsOfFault};
 
 use crate::answers::told;
 use crate::audit::unsound_in;
@@ -94,9 +94,6 @@ fn restored(
     if has_irregular(rt, folder)? {
         return Ok(ExitCode::from(FAULT_STATUS));
     }
-    if let Some(status) = short_log(rt, wanted) {
-        return Ok(status);
-    }
     let mut headers = headers_in(rt, folder, ids.as_slice(), copy)?;
     let mut first = None;
     for _ in 0..=ids.len() {
@@ -134,7 +131,7 @@ fn restored(
 /// answers the program's status. A log that counts up to a record may end behind that, and the fault
 /// of one that is none is for the restore to tell.
 fn short_log(rt: &HostRuntime, wanted: &FolderRestore<'_>) -> Option<ExitCode>
-    ensures { IfSome result (λ status. exit_status status ≤ 2) }
+    ensures { IfSome result (λ status. IsOfFault (exit_status status)) }
 {
     let (folder, manifest) = (wanted.folder, wanted.manifest);
     if wanted.until.is_some() {
@@ -262,14 +259,16 @@ fn restore_chain(
         manifest: wanted.manifest,
     };
     let master = master.as_str();
-    Ok(restore_audited(rt, threads, &names, master, chain, outputs))
+    Ok(restore_audited(rt, threads, wanted, &names, master, chain, outputs))
 }
 
 /// Restores a volume from a chain, which is audited first where one of its archives stands in no
-/// manifest. It is told which copy is not what the log made of it.
+/// manifest. It is told which copy is not what the log made of it. If no manifest names the log, it
+/// has to go on to where the note of the closing says that it ended.
 fn restore_audited(
     rt: &HostRuntime,
     threads: &(impl Threads + Sync),
+    wanted: &FolderRestore<'_>,
     names: &InputNames<'_>,
     master: &str,
     chain: &[u32],
@@ -281,6 +280,11 @@ fn restore_audited(
         return Ended::refused(ExitCode::from(FAULT_STATUS));
     };
     let known = (names, &checks);
+    if !checks.compares(&[names.log]) {
+        if let Some(status) = short_log(rt, wanted) {
+            return Ended::refused(status);
+        }
+    }
     if let Some((status, CopyId(copy))) = unsound_in(rt, known) {
         return Ended::Told(status, place_of(chain, copy));
     }
