@@ -1,12 +1,12 @@
 -- A volume that stood where a new one is made.
-use Rattle.std.proofs.Common.{◌≡◌, ◌≢◌, ◌∙◌, ℕ, Bool, List, ap, refl, subst, sym}
+use Rattle.std.proofs.Common.{◌≡◌, ◌≢◌, ◌∙◌, ◌+◌, ◌++◌, ℕ, Bool, List, ap, arith, length, length-append, refl, subst, sym}
 use Rattle.std.specs.Prelude.{codes, Err, IfOk, IfSome, None, Ok, OnOk, Option, Result, Some}
 use Rattle.engine_rules.specs.EngineState.{EngineState}
 use Rattle.saved_files.specs.Folder.{Changes, Entries, FolderEntry, IsSame, absent, stored, unsynced}
 use Rattle.database_files.specs.Found.{HasNoOrphan}
 use Rattle.database_files.specs.LeftOut.{IsKept}
-use Rattle.database_files.specs.Standing.{KeepsFinished}
-use Rattle.database_files.proofs.SecondNames.{is_finished}
+use Rattle.database_files.specs.Standing.{IsUnfinished, KeepsFinished}
+use Rattle.database_files.proofs.Public.{log_finished}
 use Rattle.database_opening.specs.OldVolume.{IsHeldAside, IsOldVolumeIn, KeepsButLogAndVolume, KeepsOldVolume, KeepsOldVolumeOfNew}
 use Rattle.database_opening.specs.Opened.{GoesOnFromFile}
 use Rattle.database_opening.specs.declared.first_line.FirstLine.{FirstLine}
@@ -21,6 +21,14 @@ not_stored : (bytes : List ℕ) → absent ≢ stored bytes
 unfolding IsNothing
 not_stored bytes same = subst IsNothing same tt
 
+-- its name is shorter than the mark of an unfinished file
+volume_finished : ¬ IsUnfinished (codes "volume")
+volume_finished it =
+    let behind = codes ".unfinished-" ++ it.1 in
+    let sizes : 6 ≡ length it.0 + length behind = ap length it.2 ∙ length-append it.0 behind in
+    let mark : length behind ≡ 12 + length it.1 = length-append (codes ".unfinished-") it.1 in
+    absurd (omega (arith, sizes, mark))
+
 -- the file that the volume's bytes have stays there while the new database is made
 kept_there : (bytes : List ℕ) (a b c d : Entries) → HasNoOrphan a → a (codes "volume") ≡ stored bytes → KeepsFinished a b
     → IsKept (Some b) bytes (Some c) → KeepsButLogAndVolume c d → (name : List ℕ) × (d name ≡ stored bytes)
@@ -28,9 +36,9 @@ kept_there bytes a b c d none is finished aside others =
     let name = aside.0 in
     let free : b name ≡ absent = aside.2 in
     let volume : name ≢ codes "volume" = λ same. not_stored bytes
-    (sym free ∙ ap b same ∙ finished (codes "volume") (is_finished (codes "volume") refl) ∙ is) in
+    (sym free ∙ ap b same ∙ finished (codes "volume") volume_finished ∙ is) in
     let log : name ≢ codes "log" = λ same. not_stored bytes (sym (none.volume
-    (sym (finished (codes "log") (is_finished (codes "log") refl)) ∙ sym (ap b same) ∙ free)) ∙ is) in
+    (sym (finished (codes "log") log_finished) ∙ sym (ap b same) ∙ free)) ∙ is) in
     (name, others name log volume ∙ aside.3.put ∙ ap stored aside.3.right)
 
 pub old_volume_kept : (is_salvage : Bool) (held : Option (List ℕ)) (a b c d : Option Entries) → IfSome a HasNoOrphan
