@@ -1,3 +1,5 @@
+pub mod Copying
+pub mod Lives
 pub mod Passes
 pub mod Peeks
 pub mod Quiet

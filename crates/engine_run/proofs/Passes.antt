@@ -1,8 +1,7 @@
 -- The pages of a flush pass, one behind the other.
-use Rattle.std.proofs.Common.{ℕ, ◌≡◌, ◌+◌, ◌<◌, ◌≤◌, arith, below_more, min, subst}
+use Rattle.std.proofs.Common.{ℕ, ◌≡◌, ◌+◌, ◌≤◌, arith, below_more, subst}
 use Rattle.std.specs.Prelude.{Result, Err}
 use Rattle.std.proofs.Common.{inl, inr}
-use Rattle.page_core.specs.declared.page.TheConstants.{MAX_PAGES}
 use Rattle.engine_calls.specs.declared.event.Answer.{Answer}
 use Rattle.engine_calls.specs.declared.event.Event.TheVariants as event
 use Rattle.engine_calls.specs.declared.refusal.Refusal.{Refusal}

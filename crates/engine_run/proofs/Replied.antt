@@ -9,6 +9,8 @@ use Rattle.log_store.specs.WrittenLog.{IsWritten}
 use Rattle.log_store.specs.declared.device.LogDevice as device
 use Rattle.page_store.specs.Store.{IsGrown}
 use Rattle.page_store.specs.declared.store.PageStore as store
+use Rattle.copy_vault.specs.declared.copy_id.CopyKind.{CopyKind}
+use Rattle.copy_vault.specs.Vault.{pages_read, state_of}
 use Rattle.settlement.specs.Receipt.{HasAt, IsStepOf}
 use Rattle.settlement.specs.declared.receipt.TxnStep.TheVariants as step
 use Rattle.engine_calls.specs.declared.event.Answer.{Answer}
@@ -23,6 +25,7 @@ use Rattle.engine_rules.specs.Step.{Step, reply_of, written_log_of}
 use Rattle.engine_rules.specs.Uses.{AsksStore, ForcesDevice}
 use Rattle.engine_run.specs.Flushed.{RepliesOf}
 use Rattle.engine_run.specs.Replies.{ForcesCommit, MadeOn, ReadsAt, RepliesBy}
+use Rattle.engine_run.specs.Work.{OpensCopy, copy_event}
 
 module _ {S D T : Type 0} (pages : store.Ghosts S) (log : device.Ghosts D) (old new : EngineView S D) (event : Event)
     (answered : T → Answer) where
@@ -160,3 +163,18 @@ module _ {S D : Type 0} (pages : store.Ghosts S) (log : device.Ghosts D) (old ne
       reply = replied pages log old new (event.Read page slot) answer.Number (Ok number) fit step uses ends stored written;
       ended = sym at;
     }
+
+-- ---- a copy begins, and its pages are counted
+
+module _ {S D : Type 0} (pages : store.Ghosts S) (log : device.Ghosts D) (old new : EngineView S D) where
+  pub opens_copy : (kind : CopyKind) (id count : ℕ) → IsFit old.state
+      → Step old.state (copy_event kind) (Ok (answer.Copied id)) new.state
+      → AsksStore pages.gave pages.wrote pages.grew pages.failures (asked old.state (copy_event kind)) old (Ok id) new
+      → ForcesDevice log.called log.synced log.failures log.fails_from old (Ok id) new
+      → IsGrown new.state.stored (pages.stored new.store) → IsWritten log.bytes (written_log_of new)
+      → count ≡ length (pages_read (state_of new.state.copies id)) → OpensCopy (MadeOn pages log) kind id count
+  unfolding replied
+  opens_copy kind id count fit step uses ends stored written is = record {
+    reply = replied pages log old new (copy_event kind) answer.Copied (Ok id) fit step uses ends stored written;
+    count = is;
+  }

@@ -1,6 +1,6 @@
 -- What a settled run tells.
 use Rattle.std.proofs.Common.{ℕ, ◌≡◌, ◌+◌, ◌<◌, ◌≤◌, ◌++◌, List, [], ◌∷◌, length, take, arith, refl, subst, sym}
-use Rattle.std.proofs.Common.{◌-◌, true, ap, inl, inr, slice_index_or, ◌∙◌, IsSomeAnd}
+use Rattle.std.proofs.Common.{true, ap, inl, inr, slice_index_or, ◌∙◌, IsSomeAnd}
 use Rattle.std.specs.List.{All, filter_map, sum_by}
 use Rattle.std.proofs.lemmas.List.{get_or-append_right, get_or_append_left, length-append}
 use Rattle.std.proofs.lemmas.List.Elements.{All-cons, All-nil, All-weaker, filter_map-append}

@@ -7,7 +7,8 @@ use Rattle.copy_vault.specs.declared.fault.CopyFault.{CopyFault}
 use Rattle.copy_vault.specs.Archive.{archive_bytes}
 use Rattle.copy_vault.specs.ArchiveWrite.{Leaves}
 use Rattle.copy_vault.specs.Copy.{CopyView, IsComplete}
-use Rattle.copy_vault.specs.Vault.{CopyState, OpenRefuses, complete_refusal}
+use Rattle.copy_vault.specs.Vault.{OpenRefuses, complete_refusal, state_of}
+use Rattle.engine_rules.specs.EngineState.{EngineState, IsFit}
 
 -- a copy has this id, and of each page it is decided
 pub record IsCompleteOf (id : ℕ) (copy : CopyView) : Type 0 where
@@ -20,12 +21,14 @@ pub record WritesCopyOf (id : ℕ) (old new : Option (List ℕ)) : Type 0 where
   pub is : IsCompleteOf id copy
   pub written : Appends old new (archive_bytes copy)
 
--- a complete copy is asked for, and refused
-abbrev pub RefusesCopy : CopyFault → Type 0
-RefusesCopy fault = (state : CopyState) × OpenRefuses (complete_refusal state) fault
+-- an engine that is fit refuses to lend the copy of this id
+pub record RefusesCopy (id : ℕ) (fault : CopyFault) : Type 0 where
+  pub engine : EngineState
+  pub fit : IsFit engine
+  pub refuses : OpenRefuses (complete_refusal (state_of engine.copies id)) fault
 
 -- nothing was written where the copy was refused, and else the first bytes of its archive at most
 abbrev pub LeavesCopyOf : ℕ → Option (List ℕ) → Option (List ℕ) → CopyWriteFault → Type 0
-LeavesCopyOf id old new (Refused fault) = RefusesCopy fault × Keeps old new
+LeavesCopyOf id old new (Refused fault) = RefusesCopy id fault × Keeps old new
 LeavesCopyOf id old new (Archive fault) =
     (copy : CopyView) × IsCompleteOf id copy × Leaves (archive_bytes copy) old new fault

@@ -4,6 +4,8 @@ pub mod Flushed
 pub mod Given
 pub mod Held
 pub mod Laws
+pub mod Left
+pub mod Life
 pub mod Replies
 pub mod Settled
 pub mod Shared

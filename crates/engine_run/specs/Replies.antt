@@ -51,8 +51,8 @@ pub record MadeOn {S D : Type 0} (pages : store.Ghosts S) (log : device.Ghosts D
   pub stored : IsGrown new.state.stored (pages.stored new.store)
   pub written : IsWritten log.bytes (written_log_of new)
 
--- what a session is told of a call: that there was no room for its receipt, and no engine was asked;
--- or what an engine replies
+-- what a session is told of a call: want of memory, as where there is no room for its receipt; its
+-- share counts what it counted then, so it has appended no record. Or what an engine replies
 abbrev pub IsTold : EngineCall → Event → Result Answer Refusal → Type 0
 IsTold call event reply = (reply ≡ Err OutOfMemory) ⊎ RepliesBy call event reply
 

@@ -158,3 +158,11 @@ IsWrongAt began e sessions works at =
 abbrev pub IsFaultOf : Beginning → Evidence → List (List Receipt) → List Work → SettleFault → Type 0
 IsFaultOf began e sessions works OutOfMemory = AddUp began.records sessions e.log.records
 IsFaultOf began e sessions works (Unsettled at) = IsWrongAt began e sessions works at
+
+-- what a refusal tells where so many sessions were made: that not all of them are given, or what is
+-- wrong with all of them
+abbrev pub IsRefusalOf : ℕ → Beginning → Evidence → List (List Receipt) → List Work → SettleFault
+    → Type 0
+IsRefusalOf made began e sessions works why =
+    ((¬ (length sessions ≡ made)) × (why ≡ Unsettled 0))
+    ⊎ ((length sessions ≡ made) × IsFaultOf began e sessions works why)

@@ -9,15 +9,15 @@ ghost use Rattle.engine_run.specs.Settled.{AreNewCopies, AreNewer, HasOlderCopy,
 ghost use Rattle.engine_run.specs.Settled.{begin_of, copies_of};
 
 use crate::beginning::Beginning;
+use crate::life::Life;
 use crate::session::Session;
 use crate::work::Work;
 use page_core::{LSN_STEP, Lsn};
 use settlement::check_age;
-use std::sync::ledger::Ledger;
 
 /// Checks that each receipt and each Point is of a record behind the log's first ones, and that no
 /// copy was there before. An `Err` has the LSN of a record that is older, or 0 where a copy is.
-pub(crate) fn check_ages<G: Ledger>(
+pub(crate) fn check_ages<G: Life>(
     began: Beginning,
     sessions: &[Session<G>],
     works: &[Work],
@@ -40,7 +40,7 @@ pub(crate) fn check_ages<G: Ledger>(
 }
 
 /// The same of receipts alone.
-fn check_receipts<G: Ledger>(bound: Lsn, sessions: &[Session<G>]) -> Result<(), Lsn>
+fn check_receipts<G: Life>(bound: Lsn, sessions: &[Session<G>]) -> Result<(), Lsn>
     ensures ok { OnOk result (All (λ lsn. bound ≤ lsn) (written (all_receipts sessions.now))) }
     ensures err { IfErr result (λ at. (at < bound)
         × (0 < times at (written (all_receipts sessions.now)))) }

@@ -11,15 +11,15 @@ ghost use Rattle.settlement.specs.Session.{AllStand};
 ghost use Rattle.settlement.specs.Sessions.{AreWrongAt, all_receipts};
 ghost use Rattle.engine_run.specs.Settled.{AddUp};
 
+use crate::life::Life;
 use crate::session::Session;
 use log_records::Record;
 use page_core::{Lsn, Page};
 use settlement::check_session;
-use std::sync::ledger::Ledger;
 
 /// Whether the shares of the sessions add up to the records of transactions in the log behind its
 /// first records.
-pub(crate) fn add_up<G: Ledger>(began: u32, sessions: &[Session<G>], records: &[Record]) -> bool
+pub(crate) fn add_up<G: Life>(began: u32, sessions: &[Session<G>], records: &[Record]) -> bool
     ensures yes { result ≡ true → AddUp began sessions.now records.now }
     ensures no { result ≡ false → ¬ AddUp began sessions.now records.now }
 {
@@ -27,7 +27,7 @@ pub(crate) fn add_up<G: Ledger>(began: u32, sessions: &[Session<G>], records: &[
 }
 
 /// Whether the sessions have receipts of so many records.
-fn have_written<G: Ledger>(sessions: &[Session<G>], count: usize) -> bool
+fn have_written<G: Life>(sessions: &[Session<G>], count: usize) -> bool
     ensures yes { result ≡ true → sum_by written_in sessions.now ≡ count }
     ensures no { result ≡ false → ¬ (sum_by written_in sessions.now ≡ count) }
 {
@@ -81,7 +81,7 @@ fn behind(began: u32, records: &[Record]) -> &[Record]
 /// Checks the receipts of all sessions against the log, and marks the records that they speak of.
 /// `pages` is room for the volume. An `Err` has the position of a receipt that does not stand, or
 /// of whose LSN there is another receipt.
-pub(crate) fn check_sessions<G: Ledger>(
+pub(crate) fn check_sessions<G: Life>(
     pages: &mut [Page],
     marks: &mut [bool],
     records: &[Record],

@@ -1,26 +1,45 @@
 //! Image copies of a shared engine, each made by many threads.
 
 ghost use Rattle.std.specs.Prelude.{◌≡◌, ◌≤◌, IfOk};
-ghost use Rattle.engine_run.specs.Replies.{MadeOn};
+ghost use Rattle.engine_rules.specs.Step.{reply_of, took_answer};
+ghost use Rattle.engine_calls.specs.declared.event.Event.TheVariants as event;
+ghost use Rattle.engine_run.specs.Replies.{MadeOn, RepliesBy};
 ghost use Rattle.engine_run.specs.Work.{IsCopiedBy};
 
 use crate::gate::HoldGate;
+use crate::life::Life;
 use crate::refused::FirstRefusal;
 use crate::shared::Shared;
 use crate::work::Work;
 use crate::worker::{Worker, workers_of};
-use aries_core::Refusal;
+use aries_core::{Refusal, Took};
 use copy_vault::{CopyId, CopyKind};
 use log_store::LogDevice;
 use page_claim::PageClaims;
+use page_core::PageNo;
 use page_store::PageStore;
 use std::alloc::Global;
-use std::sync::ledger::Ledger;
 use std::sync::{Mutex, Wait};
 use std::thread;
 use std::thread::{Scope, Threads};
 
-impl<S: PageStore, D: LogDevice, G: Ledger> Shared<S, D, G> {
+impl<S: PageStore, D: LogDevice, G: Life> Shared<S, D, G> {
+    /// Takes one page of a copy, by one hold, behind its gate.
+    pub(crate) fn take_one(
+        &self,
+        rt: &impl Wait,
+        copy: CopyId,
+        worker: u32,
+        page: PageNo,
+        gate: &impl HoldGate,
+    ) -> Result<Took, Refusal>
+        ensures { RepliesBy (MadeOn S.PageStore D.LogDevice) (event.Take copy page)
+            (reply_of took_answer result) }
+    {
+        gate.before(worker, page);
+        self.held.lock(rt).take(copy, page)
+    }
+
     /// What one worker does: it takes the pages that it claims, one hold a page, until none is left
     /// or a take is refused.
     fn take_claimed(
@@ -34,11 +53,7 @@ impl<S: PageStore, D: LogDevice, G: Ledger> Shared<S, D, G> {
             let Some(page) = worker.claim() else {
                 break;
             };
-            gate.before(worker.number, page);
-            let taken = self.held.lock(rt).take(copy, page);
-            if let Err(why) = taken {
-                return Err(why);
-            }
+            self.take_one(rt, copy, worker.number, page, gate)?;
         }
         Ok(())
     }
@@ -59,7 +74,7 @@ impl<S: PageStore, D: LogDevice, G: Ledger> Shared<S, D, G> {
     }
 }
 
-impl<S: PageStore + Send, D: LogDevice + Send, G: Ledger + Send + Sync> Shared<S, D, G> {
+impl<S: PageStore + Send, D: LogDevice + Send, G: Life + Send + Sync> Shared<S, D, G> {
     /// Makes an image copy by so many workers, in threads of their own. The first hold opens the
     /// copy, which is of the pages that the volume had where its checkpoint began; each of these is
     /// one hold, and so is the end. Pages that the volume grows by meanwhile are not taken.

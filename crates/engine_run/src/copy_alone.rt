@@ -1,10 +1,13 @@
 //! Image copies of a shared engine, each made by the thread that asks for it.
 
-ghost use Rattle.std.specs.Prelude.{IfOk};
-ghost use Rattle.engine_run.specs.Replies.{MadeOn};
-ghost use Rattle.engine_run.specs.Work.{IsCopiedBy};
+ghost use Rattle.std.specs.Prelude.{◌≡◌, ◌⊎◌, Err, IfErr, IfOk, OnOk};
+ghost use Rattle.engine_calls.specs.declared.event.Event.TheVariants as event;
+ghost use Rattle.engine_run.specs.Replies.{MadeOn, RepliesBy};
+ghost use Rattle.engine_run.specs.Work.{AreTaken, IsCopiedAlone, IsSealedBy, RefusesCopying};
+ghost use Rattle.engine_run.specs.Work.{RefusesTake};
 
 use crate::gate::HoldGate;
+use crate::life::Life;
 use crate::shared::Shared;
 use crate::work::Work;
 use aries_core::Refusal;
@@ -13,9 +16,8 @@ use log_store::LogDevice;
 use page_core::PageNo;
 use page_store::PageStore;
 use std::sync::Wait;
-use std::sync::ledger::Ledger;
 
-impl<S: PageStore, D: LogDevice, G: Ledger> Shared<S, D, G> {
+impl<S: PageStore, D: LogDevice, G: Life> Shared<S, D, G> {
     /// Makes an image copy as `copy_with` does by one worker, but in the thread that calls: it
     /// starts none. Each page is one hold, in the order of their numbers. Refusals are those of
     /// `copy_with`, and the copy is dropped as there.
@@ -25,7 +27,8 @@ impl<S: PageStore, D: LogDevice, G: Ledger> Shared<S, D, G> {
         kind: CopyKind,
         gate: &impl HoldGate,
     ) -> Result<Work, Refusal>
-        ensures { IfOk result (IsCopiedBy (MadeOn S.PageStore D.LogDevice) kind) }
+        ensures copied { IfOk result (IsCopiedAlone (MadeOn S.PageStore D.LogDevice) kind) }
+        ensures refused { IfErr result (RefusesCopying (MadeOn S.PageStore D.LogDevice) kind) }
     {
         let opened = self.held.lock(rt).open_copy(&kind);
         let (id, pages) = opened?;
@@ -40,14 +43,12 @@ impl<S: PageStore, D: LogDevice, G: Ledger> Shared<S, D, G> {
         copy: CopyId,
         pages: u32,
         gate: &impl HoldGate,
-    ) -> Result<(), Refusal> {
+    ) -> Result<(), Refusal>
+        ensures taken { OnOk result (AreTaken (MadeOn S.PageStore D.LogDevice) copy pages) }
+        ensures refused { IfErr result (RefusesTake (MadeOn S.PageStore D.LogDevice) copy pages) }
+    {
         for number in 0..pages {
-            let page = PageNo(number);
-            gate.before(0, page);
-            let taken = self.held.lock(rt).take(copy, page);
-            if let Err(why) = taken {
-                return Err(why);
-            }
+            let _took = self.take_one(rt, copy, 0, PageNo(number), gate)?;
         }
         Ok(())
     }
@@ -60,7 +61,10 @@ impl<S: PageStore, D: LogDevice, G: Ledger> Shared<S, D, G> {
         kind: CopyKind,
         taken: Result<(), Refusal>,
     ) -> Result<Work, Refusal>
-        ensures { IfOk result (IsCopiedBy (MadeOn S.PageStore D.LogDevice) kind) }
+        ensures sealed { IfOk result (IsSealedBy (MadeOn S.PageStore D.LogDevice) id kind) }
+        ensures untaken { IfErr taken (λ why. result ≡ Err why) }
+        ensures refused { IfErr result (λ why. (taken ≡ Err why)
+            ⊎ RepliesBy (MadeOn S.PageStore D.LogDevice) (event.Seal id) (Err why)) }
     {
         let why = match taken {
             Ok(()) => {

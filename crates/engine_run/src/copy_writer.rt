@@ -3,6 +3,7 @@
 ghost use Rattle.std.specs.Prelude.{◌≡◌, IfErr, IfOk, OnOk};
 ghost use Rattle.engine_run.specs.CopyWrite.{LeavesCopyOf, RefusesCopy, WritesCopyOf};
 
+use crate::life::Life;
 use crate::shared::Shared;
 use copy_vault::{CopyFault, CopyId, CopyWriteFault, LentCopy, write_archive};
 use log_store::LogDevice;
@@ -10,28 +11,27 @@ use page_store::PageStore;
 use std::alloc::Global;
 use std::io::Write;
 use std::sync::Wait;
-use std::sync::ledger::Ledger;
 
 /// Whoever lends complete copies. Those who write a copy know their engine as a lender alone, so
 /// they cannot take its lock and write under it.
 pub(crate) trait Lender {
     fn lend(&self, rt: &impl Wait, id: CopyId) -> Result<LentCopy, CopyFault>
         ensures copy { IfOk result (λ copy. copy.id ≡ id) }
-        ensures refused { IfErr result RefusesCopy };
+        ensures refused { IfErr result (RefusesCopy id) };
 }
 
-impl<S: PageStore, D: LogDevice, G: Ledger> Lender for Shared<S, D, G> {
+impl<S: PageStore, D: LogDevice, G: Life> Lender for Shared<S, D, G> {
     fn lend(&self, rt: &impl Wait, id: CopyId) -> Result<LentCopy, CopyFault> {
         self.lend_copy(rt, id)
     }
 }
 
-impl<S: PageStore, D: LogDevice, G: Ledger> Shared<S, D, G> {
+impl<S: PageStore, D: LogDevice, G: Life> Shared<S, D, G> {
     /// Lends a complete copy, by one hold: it can then be read by any thread, and written, while
     /// the engine goes on. Refusals in order: `NoCopy`, `CopyNotComplete`, `OutOfMemory`.
     pub fn lend_copy(&self, rt: &impl Wait, id: CopyId) -> Result<LentCopy, CopyFault>
         ensures copy { IfOk result (λ copy. copy.id ≡ id) }
-        ensures refused { IfErr result RefusesCopy }
+        ensures refused { IfErr result (RefusesCopy id) }
     {
         self.held.lock(rt).lend_copy(id)
     }

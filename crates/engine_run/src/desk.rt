@@ -1,9 +1,9 @@
 //! Where sessions are given back and taken anew, while their engine is shared.
 
 use crate::idle::IdleSessions;
+use crate::life::Life;
 use crate::session::Session;
 use std::alloc::{AllocError, Global};
-use std::sync::ledger::Ledger;
 use std::sync::{Mutex, Wait};
 
 /// Sessions that wait behind a lock of their own. A user takes one, makes calls and gives it back,
@@ -11,11 +11,11 @@ use std::sync::{Mutex, Wait};
 /// compares what all its users were answered. A session that is dropped takes its changes out of
 /// the sum, and then the run cannot be settled: give each one back.
 #[derive(Drop)]
-pub struct SessionDesk<G: Ledger> {
+pub struct SessionDesk<G: Life> {
     idle: Mutex<IdleSessions<G>>,
 }
 
-impl<G: Ledger> SessionDesk<G> {
+impl<G: Life> SessionDesk<G> {
     /// A desk at which no session waits, with room for each session of an engine.
     pub fn new(alloc: Global) -> Result<SessionDesk<G>, AllocError> {
         Ok(SessionDesk {

@@ -6,6 +6,7 @@ ghost use Rattle.engine_run.specs.Replies.{MadeOn};
 ghost use Rattle.engine_run.specs.Work.{IsPointedBy};
 
 use crate::gate::HoldGate;
+use crate::life::Life;
 use crate::shared::Shared;
 use crate::work::Work;
 use aries_core::{Gathered, Refusal};
@@ -13,9 +14,8 @@ use log_store::LogDevice;
 use page_core::{MAX_PAGES, PageNo};
 use page_store::PageStore;
 use std::sync::Wait;
-use std::sync::ledger::Ledger;
 
-impl<S: PageStore, D: LogDevice, G: Ledger> Shared<S, D, G> {
+impl<S: PageStore, D: LogDevice, G: Life> Shared<S, D, G> {
     /// Goes over the pages from the lowest number up, and writes those that it finds dirty. It
     /// holds the lock twice for a page: to begin the write, and to end it. A page that is clean is
     /// passed over, and so is one whose write another flusher ended; a write that another one has

@@ -11,40 +11,45 @@ ghost use Rattle.engine_calls.specs.declared.event.Event.TheVariants as event;
 ghost use Rattle.engine_run.specs.Replies.{ForcesCommit, MadeOn, ReadsAt, RepliesBy};
 ghost use Rattle.engine_run.specs.Undoing.{commit_count, step_back_count};
 
+use crate::life::Life;
 use aries_core::{Engine, Refusal, SteppedBack, Undone};
 use log_store::LogDevice;
 use page_core::{Lsn, PageNo, SlotNo, TxnNo};
 use page_store::PageStore;
 use std::marker::Model;
-use std::sync::ledger::{Book, Ledger, Share};
+use std::sync::ledger::{Book, Share};
 
 /// An engine, and the book of the ledger in which each session has a share: its total is the number
-/// of records of transactions in the log. It is what the lock of a shared engine guards. Each
-/// method is the call of that name of the engine, and so one event. A call of a transaction counts
-/// the record that it appends in the share of the session that made it, so who has no share makes
-/// none.
+/// of records of transactions in the log. It is what the lock of a shared engine guards. Its life is
+/// known: calls, one after another, have led to it from the engine that it was made of. Each method
+/// is the call of that name of the engine, and so one event. A call of a transaction counts the
+/// record that it appends in the share of the session that made it, so who has no share makes none.
 #[derive(Drop)]
-pub struct Held<S: PageStore, D: LogDevice, G: Ledger> {
+pub struct Held<S: PageStore, D: LogDevice, G: Life> {
     pub(crate) engine: Engine<S, D>,
     pub(crate) book: Book<G>,
 }
 
-impl<S: PageStore, D: LogDevice, G: Ledger> Model for Held<S, D, G> {
+impl<S: PageStore, D: LogDevice, G: Life> Model for Held<S, D, G> {
     ghost use Rattle.engine_run.specs.Held.{HeldView, IsCounted};
+    ghost use Rattle.engine_run.specs.Life.{IsLifeOf};
 
     ghost Value = { HeldView S D };
 
     ghost view = { λ it. record { engine = it.engine; total = it.book.total } };
 
-    ghost invariant = { λ it. IsCounted (record { engine = it.engine; total = it.book.total }) };
+    ghost invariant = { λ it. IsCounted (record { engine = it.engine; total = it.book.total })
+        × IsLifeOf G.before it.engine.state };
 }
 
-impl<S: PageStore, D: LogDevice, G: Ledger> Held<S, D, G> {
+impl<S: PageStore, D: LogDevice, G: Life> Held<S, D, G> {
     /// An engine, and a book that has counted the records of transactions in its log.
     pub fn new(engine: Engine<S, D>, book: Book<G>) -> Held<S, D, G>
         requires counted { book.total ≡ txn_records_in engine.state.log }
+        requires before { G.before ≡ engine.state.log }
         ensures engine { result.engine ≡ engine }
     {
+        let _ = engine.log_end();
         Held { engine, book }
     }
 

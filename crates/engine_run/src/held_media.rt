@@ -1,7 +1,7 @@
 //! The calls of a shared engine that write pages, take checkpoints and make copies, and that grow
 //! its volume.
 
-ghost use Rattle.std.specs.Prelude.{◌≡◌, length, IfErr, IfOk};
+ghost use Rattle.std.specs.Prelude.{◌≡◌, length, Err, IfErr, IfOk};
 ghost use Rattle.copy_vault.specs.Vault.{IsOfId, OpenRefuses, complete, complete_refusal};
 ghost use Rattle.copy_vault.specs.Vault.{pages_read, state_of};
 ghost use Rattle.engine_rules.specs.Asked.{asked};
@@ -11,18 +11,19 @@ ghost use Rattle.engine_calls.specs.declared.event.Answer.TheVariants as answer;
 ghost use Rattle.engine_calls.specs.declared.event.Event.TheVariants as event;
 ghost use Rattle.engine_run.specs.Flushed.{RepliesOf};
 ghost use Rattle.engine_run.specs.Replies.{MadeOn, RepliesBy};
-ghost use Rattle.engine_run.specs.Work.{copy_event};
+ghost use Rattle.engine_run.specs.CopyWrite.{RefusesCopy};
+ghost use Rattle.engine_run.specs.Work.{OpensCopy, copy_event};
 
 use crate::held::Held;
+use crate::life::Life;
 use aries_core::{Gathered, Refusal, Took};
 use copy_vault::{CopyFault, CopyId, CopyKind, LentCopy};
 use fuzzy_ckpt::Point;
 use log_store::LogDevice;
 use page_core::{Lsn, PageNo};
 use page_store::PageStore;
-use std::sync::ledger::Ledger;
 
-impl<S: PageStore, D: LogDevice, G: Ledger> Held<S, D, G> {
+impl<S: PageStore, D: LogDevice, G: Life> Held<S, D, G> {
     /// Forces the whole log, as `Engine::force` does.
     pub fn force(&mut self) -> Result<Lsn, Refusal>
         ensures step { Step self.old.engine.state event.Force (reply_of answer.Forced result)
@@ -136,17 +137,33 @@ impl<S: PageStore, D: LogDevice, G: Ledger> Held<S, D, G> {
         self.engine.copy_inc(parent)
     }
 
-    /// Begins an image copy of a kind, by `copy_full` or `copy_inc`, and answers its id and how
-    /// many pages it is of. The volume may have more.
-    pub(crate) fn open_copy(&mut self, kind: &CopyKind) -> Result<(CopyId, u32), Refusal>
+    /// Begins an image copy of a kind, as `copy_full` or `copy_inc` does.
+    fn begin_copy(&mut self, kind: &CopyKind) -> Result<CopyId, Refusal>
         ensures step { Step self.old.engine.state (copy_event kind.now)
-            (reply_of (λ a. answer.Copied a.0) result) self.new.engine.state }
-        ensures pages { IfOk result (λ a.
-            a.1 ≡ length (pages_read (state_of self.new.engine.state.copies a.0))) }
+            (reply_of answer.Copied result) self.new.engine.state }
+        ensures store { self.new.engine.store ≡ self.old.engine.store }
+        ensures device { self.new.engine.device ≡ self.old.engine.device }
     {
-        let id = match *kind {
-            CopyKind::Full => self.copy_full()?,
-            CopyKind::Inc(parent) => self.copy_inc(parent)?,
+        match *kind {
+            CopyKind::Full => self.copy_full(),
+            CopyKind::Inc(parent) => self.copy_inc(parent),
+        }
+    }
+
+    /// Begins an image copy of a kind, and answers its id and how many pages it is of. The volume
+    /// may have more.
+    pub(crate) fn open_copy(&mut self, kind: &CopyKind) -> Result<(CopyId, u32), Refusal>
+        ensures opened { IfOk result (λ a.
+            OpensCopy (MadeOn S.PageStore D.LogDevice) kind.now a.0 a.1) }
+        ensures refused { IfErr result (λ why.
+            RepliesBy (MadeOn S.PageStore D.LogDevice) (copy_event kind.now) (Err why)) }
+    {
+        let _ = self.engine.log_end();
+        let begun = self.begin_copy(kind);
+        let _ = self.engine.log();
+        let id = match begun {
+            Ok(id) => id,
+            Err(why) => return Err(why),
         };
         Ok((id, self.copy_pages(id)))
     }
@@ -169,8 +186,13 @@ impl<S: PageStore, D: LogDevice, G: Ledger> Held<S, D, G> {
         ensures store { AsksStore S.gave S.wrote S.grew S.failures
             (asked self.old.engine.state (event.Take copy page)) self.old.engine result
             self.new.engine }
+        ensures replies { RepliesBy (MadeOn S.PageStore D.LogDevice) (event.Take copy page)
+            (reply_of took_answer result) }
     {
-        self.engine.take(copy, page)
+        let _ = self.engine.log_end();
+        let result = self.engine.take(copy, page);
+        let _ = self.engine.log();
+        result
     }
 
     /// Makes a copy complete, as `Engine::seal` does.
@@ -205,8 +227,10 @@ impl<S: PageStore, D: LogDevice, G: Ledger> Held<S, D, G> {
         ensures kept { IfOk result (λ lent. IsOfId self.old.engine.state.copies copy lent) }
         ensures err { IfErr result
             (OpenRefuses (complete_refusal (state_of self.old.engine.state.copies copy))) }
+        ensures refused { IfErr result (RefusesCopy copy) }
         ensures same { self.new ≡ self.old }
     {
+        let _ = self.engine.log_end();
         self.engine.lend_copy(copy)
     }
 

@@ -3,11 +3,12 @@
 ghost use Rattle.std.specs.Prelude.{◌≡◌, ◌++◌, [], ◌∷◌, IfOk, MatchOption, length, reverse};
 
 use crate::folder::Folder;
+use crate::life::Life;
 use crate::session::Session;
 use crate::shared::MAX_SESSIONS;
 use std::alloc::{AllocError, Global};
 use std::marker::Model;
-use std::sync::ledger::{Ledger, Share};
+use std::sync::ledger::Share;
 
 /// How many sessions there is room for. Each has a part of the ledger, which has no more parts.
 const PLACES: usize = MAX_SESSIONS as usize + 1;
@@ -16,7 +17,7 @@ const PLACES: usize = MAX_SESSIONS as usize + 1;
 /// beginning, and there is room for each session of an engine: the shares of those that wait are
 /// kept as one, and it has no more parts than their ledger.
 #[derive(Drop)]
-pub struct IdleSessions<G: Ledger> {
+pub struct IdleSessions<G: Life> {
     /// The shares of all, as one.
     shares: Option<Share<G>>,
     folders: Vec<Folder>,
@@ -24,7 +25,7 @@ pub struct IdleSessions<G: Ledger> {
     room: Vec<Session<G>>,
 }
 
-impl<G: Ledger> Model for IdleSessions<G> {
+impl<G: Life> Model for IdleSessions<G> {
     ghost use Rattle.std.specs.Prelude.{◌≡◌, ◌<◌, List, [], vec_capacity, vec_len};
     ghost use Rattle.std.specs.List.{sum_by};
     ghost use Rattle.std.specs.Option.{option_map_or};
@@ -41,7 +42,7 @@ impl<G: Ledger> Model for IdleSessions<G> {
         × (vec_capacity it.folders ≡ 65) × (vec_capacity it.room ≡ 65) × (it.room.items ≡ []) };
 }
 
-impl<G: Ledger> IdleSessions<G> {
+impl<G: Life> IdleSessions<G> {
     /// None, with room for each session of an engine.
     pub fn new(alloc: Global) -> Result<IdleSessions<G>, AllocError>
         ensures { IfOk result (λ it. it ≡ []) }

@@ -23,27 +23,34 @@ ghost use Rattle.engine_run.specs.declared.beginning.Beginning.{Beginning};
 ghost use Rattle.engine_run.specs.declared.work.Work.{Work};
 ghost use Rattle.engine_run.specs.Beginning.{IsBeginning};
 ghost use Rattle.engine_run.specs.Held.{IsCounted};
+ghost use Rattle.engine_run.specs.Life.{BeginsBy, IsLifeOf};
 ghost use Rattle.engine_run.specs.Laws.{IsNewTo, IsRestoredBy, ReadsItsOwn};
 ghost use Rattle.engine_run.specs.Replies.{Replies};
 ghost use Rattle.engine_run.specs.Settled.{Evidence, IsSettled, IsWrongAt, evidence_in};
 
 use crate::held::Held;
+use crate::life::Life;
 use copy_coverage::{a_complete_copy_restores, copies_may_be_restored};
+use engine_rules::the_log_only_grows;
 use log_store::LogDevice;
 use page_store::PageStore;
-use std::sync::ledger::Ledger;
 
 /// Whenever the lock is free, what lies under it is what the promise on restores speaks of: its
-/// engine is fit, and its book has counted each record of a transaction in its log. So each
+/// engine is fit, and its book has counted each record of a transaction in its log. Calls have led to
+/// it from the engine that it was made of, whose log it still begins with. So what laws of an engine
+/// for one thread say of a run holds of it, also where it is lost before it settles; and each
 /// complete copy restores every log that a crash may leave then, while all others go on.
-pub fn a_free_lock_guards_a_fit_engine<S: PageStore, D: LogDevice, G: Ledger>(held: &Held<S, D, G>)
+pub fn a_free_lock_guards_a_fit_engine<S: PageStore, D: LogDevice, G: Life>(held: &Held<S, D, G>)
     ensures fit { IsFit held.now.engine.state }
     ensures counted { IsCounted held.now }
+    ensures life { IsLifeOf G.before held.now.engine.state }
+    ensures begins { BeginsBy G.before held.now.engine.state.log }
     ensures restores { let s = held.now.engine.state in (kept : Log) (id : ℕ) (copy : CopyView)
         → IsKeptOf (log_of s) s.forced_end kept → state_of s.copies id ≡ complete copy
         → Restores s.copies copy kept.records }
 {
     let _end = held.engine.log_end();
+    the_log_only_grows();
     copies_may_be_restored();
     a_complete_copy_restores();
 }

@@ -18,11 +18,13 @@ mod held;
 mod held_media;
 mod idle;
 mod laws;
+mod life;
 mod opened;
 mod refused;
 mod repair;
 mod room;
 mod session;
+mod settled;
 mod settling;
 mod shared;
 mod spare;
@@ -41,9 +43,11 @@ pub use laws::{
     changes_add_up_to_updates, each_change_was_answered_once, each_record_was_answered_once,
     what_is_wrong_is_not_settled,
 };
+pub use life::Life;
 pub use opened::Opened;
 pub use session::Session;
+pub use settled::Settled;
 pub use settlement::{ChangeReceipt, ReadReceipt, Receipt, StepReceipt, TxnStep};
-pub use settling::{Unsettled, settle};
+pub use settling::{Unsettled, settle, settle_whole};
 pub use shared::{MAX_SESSIONS, Shared};
 pub use work::Work;

@@ -5,6 +5,7 @@ ghost use Rattle.engine_calls.specs.declared.event.Answer.TheVariants as answer;
 ghost use Rattle.engine_calls.specs.declared.event.Event.TheVariants as event;
 ghost use Rattle.engine_run.specs.Replies.{MadeOn, RepliesBy};
 
+use crate::life::Life;
 use crate::shared::Shared;
 use aries_core::Refusal;
 use copy_vault::CopyId;
@@ -12,9 +13,8 @@ use log_store::LogDevice;
 use page_core::{Lsn, PageNo};
 use page_store::PageStore;
 use std::sync::Wait;
-use std::sync::ledger::Ledger;
 
-impl<S: PageStore, D: LogDevice, G: Ledger> Shared<S, D, G> {
+impl<S: PageStore, D: LogDevice, G: Life> Shared<S, D, G> {
     /// Stores a page anew, from a complete copy and the log, by one hold, and answers its LSN: what
     /// `Engine::repair` does, while sessions, flushers and copies go on. A flusher that has begun
     /// to write the page ends that first: until then the refusal is `WriteBegun`.

@@ -16,6 +16,7 @@ ghost use Rattle.engine_run.specs.Undoing.{IsUndoStep, step_back_receipts, undon
 ghost use Rattle.engine_run.specs.Undoing.{unsure_receipts};
 
 use crate::folder::Folder;
+use crate::life::Life;
 use crate::shared::Shared;
 use aries_core::{Refusal, SteppedBack, Undone};
 use log_store::LogDevice;
@@ -25,18 +26,18 @@ use settlement::{ChangeReceipt, ReadReceipt, Receipt, StepReceipt, TxnStep};
 use std::alloc::Global;
 use std::marker::Model;
 use std::sync::Wait;
-use std::sync::ledger::{Ledger, Share};
+use std::sync::ledger::Share;
 
 /// One user of a shared engine. It keeps a receipt of each call that was answered, in order, and a
 /// share of the ledger, whose amount is the number of records that its calls have appended.
 #[derive(Drop)]
-pub struct Session<G: Ledger> {
+pub struct Session<G: Life> {
     share: Share<G>,
     receipts: Vec<Receipt>,
     written: usize,
 }
 
-impl<G: Ledger> Model for Session<G> {
+impl<G: Life> Model for Session<G> {
     ghost use Rattle.std.specs.Prelude.{◌≡◌, List};
     ghost use Rattle.settlement.specs.Counts.{written_in};
     ghost use Rattle.settlement.specs.declared.receipt.Receipt.{Receipt};
@@ -50,7 +51,7 @@ impl<G: Ledger> Model for Session<G> {
         × (it.written ≡ written_in it.receipts.items) };
 }
 
-impl<G: Ledger> Session<G> {
+impl<G: Life> Session<G> {
     /// A session that made no call yet, of a share that counts none.
     pub(crate) fn new(alloc: Global, share: Share<G>) -> Session<G>
         requires sessions { G.parts ≡ 65 }
@@ -70,6 +71,14 @@ impl<G: Ledger> Session<G> {
         ensures { result.now ≡ self.now }
     {
         &self.receipts
+    }
+
+    /// Ends the session, and hands its receipts out. Its share goes, so this is for sessions whose
+    /// run has ended.
+    pub fn into_receipts(self) -> Vec<Receipt>
+        ensures { result.items ≡ self }
+    {
+        self.receipts
     }
 
     /// How many of them are of records, that is, no reads: the amount of its share.

@@ -1,11 +1,14 @@
 //! The end of a run: what its sessions were answered is compared with what it left.
 
-ghost use Rattle.std.specs.Prelude.{◌≡◌, ◌≤◌, false, length, replicate, IfErr, IfOk, OnOk};
+ghost use Rattle.std.specs.Prelude.{◌≡◌, ◌≤◌, false, length, replicate, vec_len};
+ghost use Rattle.std.specs.Prelude.{IfErr, IfOk, OnOk};
 ghost use Rattle.std.specs.Option.{option_map};
 ghost use Rattle.engine_rules.specs.EngineState.{log_of, master_record};
 ghost use Rattle.settlement.specs.Volume.{AreOfVolume};
-ghost use Rattle.engine_run.specs.Settled.{AddUp, IsFaultOf, IsSettled, IsWrongAt, evidence};
-ghost use Rattle.engine_run.specs.Settled.{evidence_in, evidence_of};
+ghost use Rattle.engine_run.specs.Left.{IsLeftBy};
+ghost use Rattle.engine_run.specs.Life.{BeginsBy};
+ghost use Rattle.engine_run.specs.Settled.{AddUp, IsFaultOf, IsRefusalOf, IsSettled, IsWrongAt};
+ghost use Rattle.engine_run.specs.Settled.{evidence, evidence_in, evidence_of};
 
 use crate::beginning::Beginning;
 use crate::check_ages::check_ages;
@@ -13,30 +16,32 @@ use crate::check_sessions::{add_up, check_sessions};
 use crate::check_works::check_works;
 use crate::fault::SettleFault;
 use crate::held::Held;
+use crate::life::Life;
 use crate::opened::Opened;
 use crate::room::Room;
 use crate::session::Session;
+use crate::settled::Settled;
 use crate::shared::Shared;
 use crate::work::Work;
 use copy_coverage::Retired;
 use copy_vault::Vault;
+use engine_rules::the_log_only_grows;
 use log_store::LogDevice;
 use page_core::Lsn;
 use page_store::PageStore;
 use settlement::CountedLog;
 use std::alloc::Global;
-use std::sync::ledger::Ledger;
 
 /// What `settle` gives back where it is refused: all that it was given, and why. The shared engine
 /// is out of its lock, where contracts see it. `Opened::into_shared` puts it behind one again.
 #[derive(Drop)]
-pub struct Unsettled<S: PageStore, D: LogDevice, G: Ledger> {
+pub struct Unsettled<S: PageStore, D: LogDevice, G: Life> {
     pub sessions: Vec<Session<G>>,
     pub shared: Opened<S, D, G>,
     pub fault: SettleFault,
 }
 
-impl<S: PageStore, D: LogDevice, G: Ledger> Held<S, D, G> {
+impl<S: PageStore, D: LogDevice, G: Life> Held<S, D, G> {
     /// Checks whether the run of these sessions, checkpoints and copies is settled, where `began`
     /// was there before: the shares add up to the records of transactions that the log has got
     /// since, each receipt stands, and so does each Point and copy, none of their records and no
@@ -77,7 +82,7 @@ impl<S: PageStore, D: LogDevice, G: Ledger> Held<S, D, G> {
 }
 
 /// Checks what sessions, checkpoints and copies were answered against what a run left.
-fn check_answers<G: Ledger>(
+fn check_answers<G: Life>(
     room: Room,
     began: Beginning,
     log: &CountedLog<'_>,
@@ -115,7 +120,7 @@ fn check_answers<G: Ledger>(
     Ok(())
 }
 
-impl<S: PageStore + Drop, D: LogDevice + Drop, G: Ledger> Held<S, D, G> {
+impl<S: PageStore + Drop, D: LogDevice + Drop, G: Life> Held<S, D, G> {
     /// Ends the engine, as `Engine::retire` does, and its book.
     pub fn retire(self) -> Retired
         ensures log { result.log ≡ log_of self.engine.state }
@@ -135,17 +140,45 @@ impl<S: PageStore + Drop, D: LogDevice + Drop, G: Ledger> Held<S, D, G> {
         ensures copies { result.0.copies ≡ self.engine.state.copies }
         ensures store { result.1 ≡ self.engine.store }
         ensures device { result.2 ≡ self.engine.device }
+        ensures left { IsLeftBy S.PageStore D.LogDevice G.before result.0 result.1 result.2 }
+        ensures begins { BeginsBy G.before result.0.log.records }
     {
+        the_log_only_grows();
         let Held { engine, book: _ } = self;
+        let _ = engine.log_end();
+        let _ = engine.log();
         engine.into_parts()
+    }
+}
+
+impl<S: PageStore, D: LogDevice, G: Life> Opened<S, D, G> {
+    /// Checks whether all sessions that were made are given, and then, as `Held::check` does,
+    /// whether the run is settled.
+    fn check(
+        &self,
+        alloc: Global,
+        sessions: &[Session<G>],
+        works: &[Work],
+    ) -> Result<(), SettleFault>
+        ensures all { OnOk result (length sessions.now ≡ self.now.sessions) }
+        ensures ok { OnOk result (IsSettled self.now.began
+            (evidence_of self.now.held.engine.state) sessions.now works.now) }
+        ensures err { IfErr result (IsRefusalOf self.now.sessions self.now.began
+            (evidence_of self.now.held.engine.state) sessions.now works.now) }
+    {
+        if sessions.len() != self.sessions() as usize {
+            return Err(SettleFault::Unsettled(Lsn(0)));
+        }
+        self.held().check(alloc, self.began(), sessions, works)
     }
 }
 
 /// Ends the run of a shared engine, where it is settled: then its log has got each record of a
 /// transaction that a session was answered, and no others, since it began. What was under the lock
 /// is compared with the receipts of all sessions, and with what its checkpoints and copies
-/// answered. Where it is refused, all is given back, and the engine can go on.
-pub fn settle<S: PageStore + Drop, D: LogDevice + Drop, G: Ledger>(
+/// answered. All sessions that were made have to be given. Where it is refused, all is given back,
+/// and the engine can go on.
+pub fn settle<S: PageStore + Drop, D: LogDevice + Drop, G: Life>(
     alloc: Global,
     sessions: Vec<Session<G>>,
     works: &[Work],
@@ -153,19 +186,52 @@ pub fn settle<S: PageStore + Drop, D: LogDevice + Drop, G: Ledger>(
 ) -> Result<Retired, Unsettled<S, D, G>>
     ensures settled { IfOk result (λ left.
         IsSettled shared.began (evidence_in left) sessions.items works.now) }
+    ensures all { OnOk result (vec_len sessions ≡ shared.sessions) }
+    ensures begins { IfOk result (λ left. BeginsBy G.before left.log.records) }
     ensures sessions { IfErr result (λ back. back.sessions ≡ sessions) }
     ensures shared { IfErr result (λ back. back.shared.sessions ≡ shared.sessions) }
     ensures began { IfErr result (λ back. back.shared.began ≡ shared.began) }
-    ensures fault { IfErr result (λ back. IsFaultOf shared.began
+    ensures fault { IfErr result (λ back. IsRefusalOf shared.sessions shared.began
+        (evidence_of back.shared.held.engine.state) back.sessions.items works.now back.fault) }
+{
+    match settle_whole(alloc, sessions, works, shared) {
+        Ok(left) => Ok(left.into_retired()),
+        Err(back) => Err(back),
+    }
+}
+
+/// Ends a run as `settle` does, and hands the sessions with their receipts, the store and the
+/// device back, too.
+pub fn settle_whole<S: PageStore + Drop, D: LogDevice + Drop, G: Life>(
+    alloc: Global,
+    sessions: Vec<Session<G>>,
+    works: &[Work],
+    shared: Shared<S, D, G>,
+) -> Result<Settled<S, D, G>, Unsettled<S, D, G>>
+    ensures settled { IfOk result (λ left.
+        IsSettled shared.began (evidence_in left.retired) sessions.items works.now) }
+    ensures receipts { IfOk result (λ left. left.sessions ≡ sessions) }
+    ensures all { OnOk result (vec_len sessions ≡ shared.sessions) }
+    ensures begins { IfOk result (λ left. BeginsBy G.before left.retired.log.records) }
+    ensures devices { IfOk result (λ left.
+        IsLeftBy S.PageStore D.LogDevice G.before left.retired left.store left.device) }
+    ensures sessions { IfErr result (λ back. back.sessions ≡ sessions) }
+    ensures shared { IfErr result (λ back. back.shared.sessions ≡ shared.sessions) }
+    ensures began { IfErr result (λ back. back.shared.began ≡ shared.began) }
+    ensures fault { IfErr result (λ back. IsRefusalOf shared.sessions shared.began
         (evidence_of back.shared.held.engine.state) back.sessions.items works.now back.fault) }
 {
     let shared = Opened::new(shared);
-    let began = shared.began();
-    match shared
-        .held()
-        .check(alloc, began, sessions.as_slice(), works)
-    {
-        Ok(()) => Ok(shared.into_held().retire()),
+    match shared.check(alloc, sessions.as_slice(), works) {
+        Ok(()) => {
+            let (retired, store, device) = shared.into_parts();
+            Ok(Settled {
+                retired,
+                sessions,
+                store,
+                device,
+            })
+        }
         Err(fault) => Err(Unsettled {
             sessions,
             shared,

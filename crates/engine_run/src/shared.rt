@@ -9,6 +9,7 @@ ghost use Rattle.engine_run.specs.Beginning.{IsBeginning};
 use crate::beginning::Beginning;
 use crate::check_sessions::txn_record_count;
 use crate::held::Held;
+use crate::life::Life;
 use crate::session::Session;
 use crate::spare::Spare;
 use aries_core::{Engine, PlayFault, Setup};
@@ -17,7 +18,7 @@ use page_store::PageStore;
 use std::alloc::{AllocError, Global};
 use std::marker::Model;
 use std::sync::Mutex;
-use std::sync::ledger::{Blank, Ledger, Share};
+use std::sync::ledger::{Blank, Share};
 
 /// How many sessions an engine can have.
 pub const MAX_SESSIONS: u32 = 64;
@@ -25,7 +26,7 @@ pub const MAX_SESSIONS: u32 = 64;
 /// An engine behind one lock, for its sessions, a flusher, a checkpointer and copies. Each call of
 /// theirs is one hold of the lock or several, and each hold is one event.
 #[derive(Drop)]
-pub struct Shared<S: PageStore, D: LogDevice, G: Ledger> {
+pub struct Shared<S: PageStore, D: LogDevice, G: Life> {
     pub(crate) held: Mutex<Held<S, D, G>>,
     /// The shares of the sessions that are not made yet.
     pub(crate) spares: Vec<Mutex<Spare<G>>>,
@@ -34,7 +35,7 @@ pub struct Shared<S: PageStore, D: LogDevice, G: Ledger> {
     pub(crate) began: Beginning,
 }
 
-impl<S: PageStore, D: LogDevice, G: Ledger> Model for Shared<S, D, G> {
+impl<S: PageStore, D: LogDevice, G: Life> Model for Shared<S, D, G> {
     ghost use Rattle.std.specs.Prelude.{◌≡◌, ◌+◌, vec_len};
     ghost use Rattle.engine_run.specs.Shared.{SharedView};
 
@@ -45,7 +46,7 @@ impl<S: PageStore, D: LogDevice, G: Ledger> Model for Shared<S, D, G> {
     ghost invariant = { λ it. (it.sessions + vec_len it.spares ≡ 64) × (G.parts ≡ 65) };
 }
 
-impl<S: PageStore + Drop, D: LogDevice + Drop, G: Ledger> Shared<S, D, G> {
+impl<S: PageStore + Drop, D: LogDevice + Drop, G: Life> Shared<S, D, G> {
     /// An engine over a formatted volume, as `Engine::new` makes it, and no session. The ledger `G`
     /// is opened here: it has a part for each session that may be made, and one more.
     pub fn new(
@@ -58,6 +59,7 @@ impl<S: PageStore + Drop, D: LogDevice + Drop, G: Ledger> Shared<S, D, G> {
         requires name { blank.name ≡ G.name }
         requires parts { blank.parts ≡ G.parts }
         requires sessions { blank.parts ≡ 65 }
+        requires before { G.before ≡ [] }
         requires pages { IsPageCount setup.pages }
         requires frames { IsFrameCount setup.frames }
         requires formatted { S.stored store ≡ formatted_pages setup.pages }
@@ -88,7 +90,7 @@ impl<S: PageStore + Drop, D: LogDevice + Drop, G: Ledger> Shared<S, D, G> {
     }
 }
 
-impl<S: PageStore, D: LogDevice, G: Ledger> Shared<S, D, G> {
+impl<S: PageStore, D: LogDevice, G: Life> Shared<S, D, G> {
     /// An engine that goes on from an older one, as `Engine::resume` makes it, and no session. The
     /// ledger `G` is opened here. The share that no session gets counts the records of transactions
     /// that the log has already, so those of the sessions add up to those from here on. What is open
@@ -102,6 +104,7 @@ impl<S: PageStore, D: LogDevice, G: Ledger> Shared<S, D, G> {
         requires name { blank.name ≡ G.name }
         requires parts { blank.parts ≡ G.parts }
         requires sessions { blank.parts ≡ 65 }
+        requires before { G.before ≡ engine.state.log }
         ensures sessions { IfOk result (λ it. it.sessions ≡ 0) }
         ensures began { IfOk result (λ it. IsBeginning engine.state it.began) }
         ensures same { IfErr result (λ it. it ≡ engine) }
@@ -122,7 +125,7 @@ impl<S: PageStore, D: LogDevice, G: Ledger> Shared<S, D, G> {
 }
 
 /// A share for each session that may be made, and the part that is left.
-fn spares_of<G: Ledger>(
+fn spares_of<G: Life>(
     alloc: Global,
     mut rest: Share<G>,
 ) -> Result<(Vec<Mutex<Spare<G>>>, Share<G>), AllocError>
@@ -140,7 +143,7 @@ fn spares_of<G: Ledger>(
     Ok((spares, rest))
 }
 
-impl<S: PageStore, D: LogDevice, G: Ledger> Shared<S, D, G> {
+impl<S: PageStore, D: LogDevice, G: Life> Shared<S, D, G> {
     /// How many sessions were made.
     pub fn sessions(&self) -> u32
         ensures { result ≡ self.now.sessions }

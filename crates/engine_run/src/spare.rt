@@ -2,17 +2,18 @@
 
 ghost use Rattle.std.specs.Prelude.{◌≡◌};
 
-use std::sync::ledger::{Ledger, Share};
+use crate::life::Life;
+use std::sync::ledger::Share;
 
 /// One part of the ledger, which counts nothing yet.
 #[derive(Drop)]
-pub(crate) struct Spare<G: Ledger> {
+pub(crate) struct Spare<G: Life> {
     share: Share<G>,
     ghost part: { share.parts ≡ 1 },
     ghost none: { share.amount ≡ 0 },
 }
 
-impl<G: Ledger> Spare<G> {
+impl<G: Life> Spare<G> {
     pub(crate) fn new(share: Share<G>) -> Spare<G>
         requires part { share.parts ≡ 1 }
         requires none { share.amount ≡ 0 }

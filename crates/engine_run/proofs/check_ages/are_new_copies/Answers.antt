@@ -1,4 +1,4 @@
-use Rattle.std.proofs.Common.{◌<◌, ◌∷◌, ℕ, List, [], ap, arith, refl, subst, sym}
+use Rattle.std.proofs.Common.{◌<◌, ◌∷◌, ℕ, List, [], ap, arith, subst, sym}
 use Rattle.std.specs.List.{All, filter_map}
 use Rattle.std.proofs.lemmas.List.{take_all}
 use Rattle.std.proofs.lemmas.List.Elements.{All-cons, All-nil}

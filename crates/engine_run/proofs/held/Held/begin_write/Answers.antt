@@ -3,7 +3,16 @@ use Rattle.engine_calls.specs.declared.event.Answer.TheVariants as answer
 use Rattle.engine_calls.specs.declared.event.Event.TheVariants as event
 use Rattle.engine_rules.specs.EngineState.{volume_pages}
 use Rattle.engine_run.proofs.Replied.{replied_of}
+use Rattle.engine_rules.specs.Step.{reply_of}
+use Rattle.engine_run.proofs.Lives.{lives_on}
 use Rattle.engine_run.proofs.held.Held.begin_write.Goals as goal
+
+pub invariant_of-self : goal.invariant_of-self
+invariant_of-self g c = (
+  search rules,
+  lives_on g.G.Life.before c.self.inside.engine.state (event.WriteBegin c.args.page) (reply_of answer.Writing c.write_begin-begun.result)
+      c.write_begin-begun.new.self.state c.self.invariant.1 c.write_begin-begun.ensures.step,
+)
 
 pub returns : goal.returns
 returns g c =

@@ -1,8 +1,17 @@
-use Rattle.std.proofs.Common.{rules}
+use Rattle.std.proofs.Common.{arith, rules}
+use Rattle.std.proofs.lemmas.Grind.{common_steps}
 use Rattle.engine_calls.specs.declared.event.Event.TheVariants as event
-use Rattle.engine_rules.specs.Step.{undo_answer}
+use Rattle.engine_rules.specs.Step.{reply_of, undo_answer}
 use Rattle.engine_run.proofs.Replied.{replied}
+use Rattle.engine_run.proofs.Lives.{lives_on}
 use Rattle.engine_run.proofs.held.Held.undo_step.Goals as goal
+
+pub invariant_of-self : goal.invariant_of-self
+invariant_of-self g c = (
+  grind (arith, common_steps),
+  lives_on g.G.Life.before c.self.inside.engine.state (event.UndoStep c.args.txn) (reply_of undo_answer c.undo_step-result.result)
+      c.undo_step-result.new.self.state c.self.invariant.1 c.undo_step-result.ensures.step,
+)
 
 pub returns-then-is_ok-clause-replies : goal.returns-then-is_ok-clause-replies
 returns-then-is_ok-clause-replies g c =
