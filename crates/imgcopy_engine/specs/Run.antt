@@ -1,13 +1,14 @@
 -- How the run of a program's tasks ends.
-use Rattle.std.specs.Prelude.{ℕ, ◌≡◌, ◌<◌, ◌++◌, List, [], length, slice_index_or}
-use Rattle.std.specs.Prelude.{Option, None, Some, codes}
+use Rattle.std.specs.Prelude.{ℕ, ◌≡◌, ◌<◌, ◌++◌, List, [], length, map, slice_index_or}
+use Rattle.std.specs.Prelude.{Option, None, Some, Vec, codes}
+use Rattle.std.proofs.Common.{Global}
 use Rattle.std.specs.List.{flat_map}
 use Rattle.settlement.specs.declared.receipt.Receipt.{Receipt}
 use Rattle.copy_coverage.specs.Retired.{RetiredView}
 use Rattle.page_core.specs.FaultName.{fault_line}
 use Rattle.page_core.specs.declared.fault_name.FaultName.TheVariants as name
 use Rattle.engine_calls.specs.Refusal.{line_of_fault}
-use Rattle.engine_run.specs.Settled.{Evidence, IsSettled, IsWrongAt, evidence_in}
+use Rattle.engine_run.specs.Settled.{IsFaultOf, IsSettled, evidence_in}
 use Rattle.engine_run.specs.declared.beginning.Beginning.{Beginning}
 use Rattle.engine_run.specs.declared.fault.SettleFault.{SettleFault}
 use Rattle.engine_run.specs.declared.fault.SettleFault.TheVariants as settle
@@ -35,32 +36,41 @@ pub record HaveWorked {T : Type 0} (worked : TaskWork T) (old new : List T)
 abbrev pub all_works : List (List Work) → List Work
 all_works works = flat_map (λ own. own) works
 
--- the tasks of a run have worked, and what it left is settled with what all of their sessions, and
--- all of their checkpoints and copies, were answered; this was there before
+-- what each of them was answered
+abbrev pub lists_of : {X : Type 0} → List (Vec X Global) → List (List X)
+lists_of lists = map (λ own. own.items) lists
+
+-- the tasks of a run have worked, each with a session that has these receipts, and with these works;
+-- and what the run left is settled with just these. This was there before
 pub record WasSettled {T : Type 0} (worked : TaskWork T) (began : Beginning) (old new : List T)
+    (receipts : List (Vec Receipt Global)) (works : List (Vec Work Global)) (left : RetiredView) : Type 0 where
+  pub have_worked : HaveWorked worked old new (lists_of receipts) (lists_of works)
+  pub settled : IsSettled began (evidence_in left) (lists_of receipts) (all_works (lists_of works))
+
+-- the tasks have worked, each with these receipts and works; and the fault is what is wrong with
+-- these in what the run left
+pub record WasRefused {T : Type 0} (worked : TaskWork T) (IsBegan : Beginning → Type 0)
+    (fault : RunFault) (old new : List T) (receipts : List (Vec Receipt Global)) (works : List (Vec Work Global))
     (left : RetiredView) : Type 0 where
-  pub sessions : List (List Receipt)
-  pub works : List (List Work)
-  pub have_worked : HaveWorked worked old new sessions works
-  pub settled : IsSettled began (evidence_in left) sessions (all_works works)
+  pub began : Beginning
+  pub is_began : IsBegan began
+  pub why : SettleFault
+  pub is_why : fault ≡ Unsettled why
+  pub have_worked : HaveWorked worked old new (lists_of receipts) (lists_of works)
+  pub wrong : IsFaultOf began (evidence_in left) (lists_of receipts) (all_works (lists_of works)) why
 
--- where what was answered is not settled, the LSN that is told is that of something wrong in it, by
--- what some run left
-abbrev pub IsToldOf : Beginning → List (List Receipt) → List Work → SettleFault → Type 0
-IsToldOf began sessions works settle.OutOfMemory = Unit {0}
-IsToldOf began sessions works (settle.Unsettled at) =
-    (e : Evidence) × IsWrongAt began e sessions works at
+-- what was answered is compared, and is wrong somewhere
+abbrev pub IsUnsettledAt : RunFault → Type 0
+IsUnsettledAt (Unsettled why) = ¬ (why ≡ settle.OutOfMemory)
+IsUnsettledAt other = ⊥
 
--- each task has worked where the run is not settled, and the fault is of what they were answered,
--- beside what was there before; at each other fault none of them has. There are too many only if
--- they are more than an engine has sessions
-abbrev pub WasTried : {T : Type 0} → TaskWork T → (Beginning → Type 0) → RunFault → List T → List T
-    → Type 0
-WasTried worked IsBegan (Unsettled why) old new =
-    (began : Beginning) × IsBegan began × (sessions : List (List Receipt)) × (works : List (List Work))
-    × HaveWorked worked old new sessions works × IsToldOf began sessions (all_works works) why
-WasTried worked IsBegan TooManyTasks old new = (new ≡ old) × (64 < length old)
-WasTried worked IsBegan other old new = new ≡ old
+-- each task has worked where the run is not settled; at each other fault none of them has. There are
+-- too many only if they are more than an engine has sessions
+abbrev pub WasTried : {T : Type 0} → TaskWork T → RunFault → List T → List T → Type 0
+WasTried worked (Unsettled why) old new =
+    (sessions : List (List Receipt)) × (works : List (List Work)) × HaveWorked worked old new sessions works
+WasTried worked TooManyTasks old new = (new ≡ old) × (64 < length old)
+WasTried worked other old new = new ≡ old
 
 -- there was an engine
 abbrev pub IsOfEngine : RunFault → Type 0

@@ -2,23 +2,22 @@
 
 use crate::calls::Calls;
 use aries_core::{Refusal, SteppedBack};
-use engine_run::{Session, Shared};
+use engine_run::{Life, Session, Shared};
 use log_store::LogDevice;
 use page_core::{Lsn, PageNo, SlotNo, TxnNo};
 use page_store::PageStore;
 use settlement::{ChangeReceipt, ReadReceipt, StepReceipt};
 use std::sync::Wait;
-use std::sync::ledger::Ledger;
 
 /// A session with the engine that it is of, so that its calls name neither.
 #[derive(Drop)]
-pub struct Client<'a, S: PageStore, D: LogDevice, G: Ledger, R: Wait> {
+pub struct Client<'a, S: PageStore, D: LogDevice, G: Life, R: Wait> {
     pub session: Session<G>,
     pub shared: &'a Shared<S, D, G>,
     pub rt: &'a R,
 }
 
-impl<S: PageStore, D: LogDevice, G: Ledger, R: Wait> Calls for Client<'_, S, D, G, R> {
+impl<S: PageStore, D: LogDevice, G: Life, R: Wait> Calls for Client<'_, S, D, G, R> {
     ghost use Rattle.engine_run.specs.Replies.{IsTold, MadeOn};
 
     ghost receipts = { λ it. it.session };

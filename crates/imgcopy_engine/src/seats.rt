@@ -3,30 +3,29 @@
 ghost use Rattle.std.specs.Prelude.{◌≡◌, ◌+◌, ◌<◌, ◌≤◌, [], map, vec_capacity, vec_len};
 ghost use Rattle.std.specs.Prelude.{IfOk, OnErr, OnOk};
 ghost use Rattle.std.specs.List.{All};
-ghost use Rattle.imgcopy_engine.specs.Run.{HaveWorked, all_works};
+ghost use Rattle.imgcopy_engine.specs.Run.{HaveWorked, all_works, lists_of};
 
 use crate::client::Client;
 use crate::run::Task;
-use engine_run::{Session, Shared, Work};
+use engine_run::{Life, Session, Shared, Work};
 use log_store::LogDevice;
 use page_store::PageStore;
 use std::alloc::{AllocError, Global};
 use std::sync::Wait;
-use std::sync::ledger::Ledger;
 use std::thread::Threads;
 use std::{mem, thread};
 
 /// A task, the session that it uses with its engine, and what its checkpoints and copies were
 /// answered.
 #[derive(Drop)]
-pub(crate) struct Seat<'a, T, S: PageStore, D: LogDevice, G: Ledger, R: Wait> {
+pub(crate) struct Seat<'a, T, S: PageStore, D: LogDevice, G: Life, R: Wait> {
     task: T,
     client: Client<'a, S, D, G, R>,
     works: Vec<Work>,
 }
 
 /// So many sessions of a shared engine.
-pub(crate) fn sessions_of<S: PageStore, D: LogDevice, G: Ledger>(
+pub(crate) fn sessions_of<S: PageStore, D: LogDevice, G: Life>(
     alloc: Global,
     shared: &mut Shared<S, D, G>,
     count: usize,
@@ -34,6 +33,7 @@ pub(crate) fn sessions_of<S: PageStore, D: LogDevice, G: Ledger>(
     requires few { shared.old.sessions + count ≤ 64 }
     ensures count { IfOk result (λ it. vec_len it ≡ count) }
     ensures empty { IfOk result (λ it. All (λ session. session ≡ []) it.items) }
+    ensures made { OnOk result (shared.new.sessions ≡ shared.old.sessions + count) }
     ensures began { shared.new.began ≡ shared.old.began }
 {
     let mut sessions = Vec::new(alloc);
@@ -45,7 +45,7 @@ pub(crate) fn sessions_of<S: PageStore, D: LogDevice, G: Ledger>(
 
 /// A seat for each task, with a session that made no call yet. The tasks are taken out of their
 /// list, which has room to have them back.
-pub(crate) fn seats_of<'a, T: Drop, S: PageStore, D: LogDevice, G: Ledger, R: Wait>(
+pub(crate) fn seats_of<'a, T: Drop, S: PageStore, D: LogDevice, G: Life, R: Wait>(
     rt: &'a R,
     alloc: Global,
     shared: &'a Shared<S, D, G>,
@@ -82,7 +82,7 @@ pub(crate) fn seats_of<'a, T: Drop, S: PageStore, D: LogDevice, G: Ledger, R: Wa
 }
 
 /// Takes a session out of a list of such as made no call yet.
-fn next_session<G: Ledger>(sessions: &mut Vec<Session<G>>) -> Session<G>
+fn next_session<G: Life>(sessions: &mut Vec<Session<G>>) -> Session<G>
     requires some { 0 < vec_len sessions.old }
     requires empty { All (λ session. session ≡ []) sessions.old.items }
     ensures session { result ≡ [] }
@@ -101,7 +101,7 @@ where
     T: Task<R> + Send,
     S: PageStore + Send,
     D: LogDevice + Send,
-    G: Ledger + Send + Sync,
+    G: Life + Send + Sync,
     R: Threads + Wait + Sync,
     requires sessions { All (λ seat. seat.client.session ≡ []) seats.old }
     requires works { All (λ seat. seat.works.items ≡ []) seats.old }
@@ -133,7 +133,7 @@ where
 }
 
 /// What all tasks' checkpoints and copies were answered.
-pub(crate) fn works_of<T, S: PageStore, D: LogDevice, G: Ledger, R: Wait>(
+pub(crate) fn works_of<T, S: PageStore, D: LogDevice, G: Life, R: Wait>(
     alloc: Global,
     seats: &[Seat<'_, T, S, D, G, R>],
 ) -> Result<Vec<Work>, AllocError>
@@ -147,22 +147,26 @@ pub(crate) fn works_of<T, S: PageStore, D: LogDevice, G: Ledger, R: Wait>(
     Ok(works)
 }
 
-/// Gives the tasks back, and tells their sessions, both in their order.
-pub(crate) fn give_back<T: Drop, S: PageStore, D: LogDevice, G: Ledger, R: Wait>(
+/// Gives the tasks back, their sessions, and what the checkpoints and copies of each were answered,
+/// all in the order of the tasks.
+pub(crate) fn give_back<T: Drop, S: PageStore, D: LogDevice, G: Life, R: Wait>(
     seats: Vec<Seat<'_, T, S, D, G, R>>,
     sessions: &mut Vec<Session<G>>,
+    works: &mut Vec<Vec<Work>>,
     tasks: &mut Vec<T>,
 )
     requires tasks { (tasks.old.items ≡ []) × (vec_len seats ≤ vec_capacity tasks.old) }
     requires sessions { (sessions.old.items ≡ []) × (vec_len seats ≤ vec_capacity sessions.old) }
+    requires works { (works.old.items ≡ []) × (vec_len seats ≤ vec_capacity works.old) }
     ensures tasks { tasks.new.items ≡ map (λ seat. seat.task) seats.entry.items }
     ensures sessions { sessions.new.items ≡ map (λ seat. seat.client.session) seats.entry.items }
+    ensures works { lists_of works.new.items ≡ map (λ seat. seat.works.items) seats.entry.items }
 {
     for seat in seats {
         let Seat {
             task,
             client,
-            works: _,
+            works: own,
         } = seat;
         let Client {
             session,
@@ -171,5 +175,6 @@ pub(crate) fn give_back<T: Drop, S: PageStore, D: LogDevice, G: Ledger, R: Wait>
         } = client;
         tasks.push_reserved(task);
         sessions.push_reserved(session);
+        works.push_reserved(own);
     }
 }

@@ -1,7 +1,5 @@
-use Rattle.std.proofs.Common.{◌≡◌, ◌++◌, ◌∷◌, ◌∙◌, [], List, ap, inl, inr, refl, subst, sym}
+use Rattle.std.proofs.Common.{List, inr, subst}
 use Rattle.settlement.specs.declared.receipt.Receipt.{Receipt}
-use Rattle.engine_calls.specs.declared.refusal.Refusal.{Refusal}
-use Rattle.engine_run.specs.Undoing.{unsure_receipts}
 use Rattle.imgcopy_engine.specs.Ending.{Goes}
 use Rattle.imgcopy_engine.proofs.Calling.{none_left}
 use Rattle.imgcopy_engine.proofs.ending.commit.Goals as goal
