@@ -1,7 +1,5 @@
 //! What a settled run leaves.
 
-ghost use Rattle.std.specs.Prelude.{◌≡◌};
-
 use crate::life::Life;
 use crate::session::Session;
 use copy_coverage::Retired;
@@ -20,13 +18,4 @@ pub struct Settled<S: PageStore, D: LogDevice, G: Life> {
     pub store: S,
     /// The device of the log, as the last call left it.
     pub device: D,
-}
-
-impl<S: PageStore + Drop, D: LogDevice + Drop, G: Life> Settled<S, D, G> {
-    /// What a restore needs. Store and device go, and neither is called.
-    pub fn into_retired(self) -> Retired
-        ensures { result ≡ self.retired }
-    {
-        self.retired
-    }
 }

@@ -154,7 +154,7 @@ impl<S: PageStore + Drop, D: LogDevice + Drop, G: Life> Held<S, D, G> {
 impl<S: PageStore, D: LogDevice, G: Life> Opened<S, D, G> {
     /// Checks whether all sessions that were made are given, and then, as `Held::check` does,
     /// whether the run is settled.
-    fn check(
+    fn check_whole(
         &self,
         alloc: Global,
         sessions: &[Session<G>],
@@ -175,9 +175,10 @@ impl<S: PageStore, D: LogDevice, G: Life> Opened<S, D, G> {
 
 /// Ends the run of a shared engine, where it is settled: then its log has got each record of a
 /// transaction that a session was answered, and no others, since it began. What was under the lock
-/// is compared with the receipts of all sessions, and with what its checkpoints and copies
-/// answered. All sessions that were made have to be given. Where it is refused, all is given back,
-/// and the engine can go on.
+/// is compared with the receipts of the sessions, and with what its checkpoints and copies
+/// answered. A session that was made and is not given is not compared: if it has appended a
+/// record, the shares do not add up. Where it is refused, all is given back, and the engine can go
+/// on.
 pub fn settle<S: PageStore + Drop, D: LogDevice + Drop, G: Life>(
     alloc: Global,
     sessions: Vec<Session<G>>,
@@ -186,22 +187,34 @@ pub fn settle<S: PageStore + Drop, D: LogDevice + Drop, G: Life>(
 ) -> Result<Retired, Unsettled<S, D, G>>
     ensures settled { IfOk result (λ left.
         IsSettled shared.began (evidence_in left) sessions.items works.now) }
-    ensures all { OnOk result (vec_len sessions ≡ shared.sessions) }
     ensures begins { IfOk result (λ left. BeginsBy G.before left.log.records) }
     ensures sessions { IfErr result (λ back. back.sessions ≡ sessions) }
     ensures shared { IfErr result (λ back. back.shared.sessions ≡ shared.sessions) }
     ensures began { IfErr result (λ back. back.shared.began ≡ shared.began) }
-    ensures fault { IfErr result (λ back. IsRefusalOf shared.sessions shared.began
+    ensures fault { IfErr result (λ back. IsFaultOf shared.began
         (evidence_of back.shared.held.engine.state) back.sessions.items works.now back.fault) }
 {
-    match settle_whole(alloc, sessions, works, shared) {
-        Ok(left) => Ok(left.into_retired()),
-        Err(back) => Err(back),
+    let shared = Opened::new(shared);
+    let began = shared.began();
+    match shared
+        .held()
+        .check(alloc, began, sessions.as_slice(), works)
+    {
+        Ok(()) => {
+            let (retired, _, _) = shared.into_parts();
+            Ok(retired)
+        }
+        Err(fault) => Err(Unsettled {
+            sessions,
+            shared,
+            fault,
+        }),
     }
 }
 
 /// Ends a run as `settle` does, and hands the sessions with their receipts, the store and the
-/// device back, too.
+/// device back, too. All sessions that were made have to be given: where one is missing, it answers
+/// `Unsettled` with 0.
 pub fn settle_whole<S: PageStore + Drop, D: LogDevice + Drop, G: Life>(
     alloc: Global,
     sessions: Vec<Session<G>>,
@@ -222,7 +235,7 @@ pub fn settle_whole<S: PageStore + Drop, D: LogDevice + Drop, G: Life>(
         (evidence_of back.shared.held.engine.state) back.sessions.items works.now back.fault) }
 {
     let shared = Opened::new(shared);
-    match shared.check(alloc, sessions.as_slice(), works) {
+    match shared.check_whole(alloc, sessions.as_slice(), works) {
         Ok(()) => {
             let (retired, store, device) = shared.into_parts();
             Ok(Settled {
