@@ -1,23 +1,23 @@
 //! Parts of transactions: what is taken back where one is stopped, and what stays.
 
-ghost use Rattle.std.specs.Prelude.{◌≡◌};
+ghost use Rattle.std.specs.Prelude.{[], ◌≡◌};
 
 use crate::volume::{PAGE, device, new_session, stepped, volume, was_set};
 use imgcopy_engine::{
-    Calls, Client, Lsn, MemDevice, MemStore, NotDone, Receipt, Refusal, SlotNo, Stop, TxnNo,
+    Calls, Client, Life, Lsn, MemDevice, MemStore, NotDone, Receipt, Refusal, SlotNo, Stop, TxnNo,
     TxnStep, attempt, step_back,
 };
 use std::marker::Brand;
 use std::process::Abort;
 use std::sync::Wait;
-use std::sync::ledger::{Blank, Ledger};
+use std::sync::ledger::Blank;
 
 type User<'a, G, R> = Client<'a, MemStore, MemDevice, G, R>;
 
 const FIRST: TxnNo = TxnNo(1);
 
 /// Begins transaction 1, and sets slot 0 to 1: the records 64 and 128.
-fn begin<G: Ledger, R: Wait + Abort>(client: &mut User<'_, G, R>) {
+fn begin<G: Life, R: Wait + Abort>(client: &mut User<'_, G, R>) {
     let begun = client.begin();
     assert_eq!(client.rt; begun.map(|it| (it.txn, it.lsn)), Ok((FIRST, Lsn(64))));
     let set = client.set(FIRST, PAGE, SlotNo(0), 1);
@@ -25,7 +25,7 @@ fn begin<G: Ledger, R: Wait + Abort>(client: &mut User<'_, G, R>) {
 }
 
 /// Asserts which numbers the first slots have.
-fn assert_slots<G: Ledger, R: Wait + Abort>(client: &User<'_, G, R>, numbers: [u64; 3]) {
+fn assert_slots<G: Life, R: Wait + Abort>(client: &User<'_, G, R>, numbers: [u64; 3]) {
     for slot in 0..3u16 {
         let number = client.peek(PAGE, SlotNo(slot));
         assert_eq!(client.rt; number, Ok(numbers[slot as usize]));
@@ -33,7 +33,7 @@ fn assert_slots<G: Ledger, R: Wait + Abort>(client: &User<'_, G, R>, numbers: [u
 }
 
 /// A part that sets slots 0 and 1, and ends as it is told.
-fn set_both<G: Ledger, R: Wait + Abort>(
+fn set_both<G: Life, R: Wait + Abort>(
     client: &mut User<'_, G, R>,
     txn: TxnNo,
     ends: Result<u32, Stop<u32>>,
@@ -56,9 +56,10 @@ fn receipts_of_both() -> [Receipt; 4] {
 }
 
 /// Both changes of the part are taken back, and the one before it stays. The transaction goes on.
-fn stop_a_part<G: Ledger, R: Wait + Abort + AllocGlobal>(rt: &R, blank: Blank)
+fn stop_a_part<G: Life, R: Wait + Abort + AllocGlobal>(rt: &R, blank: Blank)
     requires name { blank.name ≡ G.name }
     requires parts { blank.parts ≡ G.parts }
+    requires before { G.before ≡ [] }
     requires sessions { blank.parts ≡ 65 }
 {
     let mut shared = volume::<MemDevice, G, R>(rt, blank, device(rt));
@@ -91,9 +92,10 @@ fn stop_a_part<G: Ledger, R: Wait + Abort + AllocGlobal>(rt: &R, blank: Blank)
 }
 
 /// A part that is done stays.
-fn do_a_part<G: Ledger, R: Wait + Abort + AllocGlobal>(rt: &R, blank: Blank)
+fn do_a_part<G: Life, R: Wait + Abort + AllocGlobal>(rt: &R, blank: Blank)
     requires name { blank.name ≡ G.name }
     requires parts { blank.parts ≡ G.parts }
+    requires before { G.before ≡ [] }
     requires sessions { blank.parts ≡ 65 }
 {
     let mut shared = volume::<MemDevice, G, R>(rt, blank, device(rt));
@@ -111,9 +113,10 @@ fn do_a_part<G: Ledger, R: Wait + Abort + AllocGlobal>(rt: &R, blank: Blank)
 
 /// A part of a transaction that is not open is not done; and of one that rolls back, no part can be
 /// taken back.
-fn refuse_parts<G: Ledger, R: Wait + Abort + AllocGlobal>(rt: &R, blank: Blank)
+fn refuse_parts<G: Life, R: Wait + Abort + AllocGlobal>(rt: &R, blank: Blank)
     requires name { blank.name ≡ G.name }
     requires parts { blank.parts ≡ G.parts }
+    requires before { G.before ≡ [] }
     requires sessions { blank.parts ≡ 65 }
 {
     let mut shared = volume::<MemDevice, G, R>(rt, blank, device(rt));
@@ -136,9 +139,10 @@ fn refuse_parts<G: Ledger, R: Wait + Abort + AllocGlobal>(rt: &R, blank: Blank)
 
 /// Goes back to the second of three savepoints, and then to the first one. The third one is none
 /// any more.
-fn go_back<G: Ledger, R: Wait + Abort + AllocGlobal>(rt: &R, blank: Blank)
+fn go_back<G: Life, R: Wait + Abort + AllocGlobal>(rt: &R, blank: Blank)
     requires name { blank.name ≡ G.name }
     requires parts { blank.parts ≡ G.parts }
+    requires before { G.before ≡ [] }
     requires sessions { blank.parts ≡ 65 }
 {
     let mut shared = volume::<MemDevice, G, R>(rt, blank, device(rt));

@@ -6,12 +6,11 @@ ghost use Rattle.imgcopy_engine.specs.engine_run.declared.work.Work.{Work};
 
 use crate::volume::device;
 use imgcopy_engine::{
-    Calls, Client, CopyId, CopyKind, LogDevice, MemStore, OpenGate, PageNo, PageStore, RunFault,
-    Setup, SlotNo, Stop, Task, Work, run_new, transact,
+    Calls, Client, CopyId, CopyKind, Life, LogDevice, MemStore, OpenGate, PageNo, PageStore,
+    Receipt, RunFault, Setup, SlotNo, Stop, Task, Work, run_new, transact,
 };
 use std::process::Abort;
 use std::sync::Wait;
-use std::sync::ledger::Ledger;
 
 /// What a task of these tests does.
 #[derive(Clone, Copy, Debug, PartialEq, Eq)]
@@ -52,7 +51,7 @@ impl Worker {
     }
 
     /// Takes a checkpoint and makes a copy.
-    fn copy<S: PageStore, D: LogDevice, G: Ledger, R: Wait>(
+    fn copy<S: PageStore, D: LogDevice, G: Life, R: Wait>(
         client: &Client<'_, S, D, G, R>,
         works: &mut Vec<Work>,
     ) -> Option<()> {
@@ -67,7 +66,7 @@ impl<R: Wait + Abort> Task<R> for Worker {
     // A task of these tests keeps its number.
     ghost worked = { λ old new receipts works. new.number ≡ old.number };
 
-    fn work<S: PageStore, D: LogDevice, G: Ledger>(
+    fn work<S: PageStore, D: LogDevice, G: Life>(
         &mut self,
         client: &mut Client<'_, S, D, G, R>,
         works: &mut Vec<Work>,
@@ -122,11 +121,19 @@ fn assert_workers(rt: &impl Abort, workers: &[Worker], count: u16, worked: u32) 
 fn tasks_come_back_in_their_order(rt: HostRuntime) {
     let store = MemStore::new(rt.alloc(), 4).expect(&rt, "a store");
     let mut tasks = workers(&rt, 62);
-    let left = run_new(&rt, rt.alloc(), SETUP, store, device(&rt), &mut tasks);
-    let left = left.expect(&rt, "the run is settled");
+    let end = run_new(&rt, rt.alloc(), SETUP, store, device(&rt), &mut tasks);
+    let end = end.ok().expect(&rt, "the run is settled");
     assert_workers(&rt, &tasks, 62, 1);
-    assert!(&rt; left.log().records().len() >= 60 * 3 + 2);
-    assert!(&rt; left.vault().complete(CopyId(1)).is_some());
+    assert!(&rt; end.retired.log().records().len() >= 60 * 3 + 2);
+    assert!(&rt; end.retired.vault().complete(CopyId(1)).is_some());
+    assert_eq!(&rt; end.receipts.len(), 62);
+    let works = end.works.get(0).expect(&rt, "the works of the first task");
+    assert!(&rt; matches!(works.as_slice(), [Work::Pointed(_), Work::Copied { .. }]));
+    let receipts = end
+        .receipts
+        .get(1)
+        .expect(&rt, "the receipts of the second task");
+    assert!(&rt; matches!(receipts.as_slice(), [Receipt::Read(_)]));
 }
 
 /// More tasks than an engine has sessions: none of them works, and all come back.
@@ -134,7 +141,10 @@ fn tasks_come_back_in_their_order(rt: HostRuntime) {
 fn too_many_tasks_come_back(rt: HostRuntime) {
     let store = MemStore::new(rt.alloc(), 4).expect(&rt, "a store");
     let mut tasks = workers(&rt, 65);
-    let left = run_new(&rt, rt.alloc(), SETUP, store, device(&rt), &mut tasks);
-    assert!(&rt; matches!(left, Err(RunFault::TooManyTasks)));
+    let Err(back) = run_new(&rt, rt.alloc(), SETUP, store, device(&rt), &mut tasks) else {
+        panic!(&rt; "so many tasks have worked");
+    };
+    assert!(&rt; back.fault == RunFault::TooManyTasks);
+    assert!(&rt; back.end.is_none());
     assert_workers(&rt, &tasks, 65, 0);
 }

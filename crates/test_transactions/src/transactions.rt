@@ -1,16 +1,16 @@
 //! Transactions whose work is a closure: how each of them ends, and what is told.
 
-ghost use Rattle.std.specs.Prelude.{◌≡◌};
+ghost use Rattle.std.specs.Prelude.{[], ◌≡◌};
 
 use crate::volume::{PAGE, Volume, device, new_session, stepped, volume, was_set};
 use imgcopy_engine::{
-    Calls, Client, Committed, FaultyDevice, LogDevice, Lsn, MemDevice, MemStore, NotDone, Refusal,
-    Session, SlotNo, Stop, TxnNo, TxnStep, transact,
+    Calls, Client, Committed, FaultyDevice, Life, LogDevice, Lsn, MemDevice, MemStore, NotDone,
+    Refusal, Session, SlotNo, Stop, TxnNo, TxnStep, transact,
 };
 use std::marker::Brand;
 use std::process::Abort;
 use std::sync::Wait;
-use std::sync::ledger::{Blank, Ledger};
+use std::sync::ledger::Blank;
 
 type User<'a, D, G, R> = Client<'a, MemStore, D, G, R>;
 
@@ -18,11 +18,7 @@ type User<'a, D, G, R> = Client<'a, MemStore, D, G, R>;
 type Told = Result<Committed<u32>, NotDone<u32>>;
 
 /// Holds slot 0 in transaction 1, with the records 64 and 128.
-fn hold<G: Ledger, R: Wait + Abort>(
-    rt: &R,
-    shared: &Volume<MemDevice, G>,
-    holder: &mut Session<G>,
-) {
+fn hold<G: Life, R: Wait + Abort>(rt: &R, shared: &Volume<MemDevice, G>, holder: &mut Session<G>) {
     let begun = holder.begin(rt, shared);
     assert_eq!(rt; begun.map(|it| (it.txn, it.lsn)), Ok((TxnNo(1), Lsn(64))));
     let set = holder.set(rt, shared, TxnNo(1), PAGE, SlotNo(0), 7);
@@ -30,7 +26,7 @@ fn hold<G: Ledger, R: Wait + Abort>(
 }
 
 /// Sets slot 0 to 8, and answers at which try. The holder commits before the try of this number.
-fn set_when_free<G: Ledger, R: Wait + Abort>(
+fn set_when_free<G: Life, R: Wait + Abort>(
     client: &mut User<'_, MemDevice, G, R>,
     holder: &mut Session<G>,
     free_at: u32,
@@ -49,9 +45,10 @@ fn set_when_free<G: Ledger, R: Wait + Abort>(
 }
 
 /// The slot is free at the third try. The first two have ended by then, each with an End.
-fn commit_at_the_last_try<G: Ledger, R: Wait + Abort + AllocGlobal>(rt: &R, blank: Blank)
+fn commit_at_the_last_try<G: Life, R: Wait + Abort + AllocGlobal>(rt: &R, blank: Blank)
     requires name { blank.name ≡ G.name }
     requires parts { blank.parts ≡ G.parts }
+    requires before { G.before ≡ [] }
     requires sessions { blank.parts ≡ 65 }
 {
     let mut shared = volume::<MemDevice, G, R>(rt, blank, device(rt));
@@ -84,9 +81,10 @@ fn commit_at_the_last_try<G: Ledger, R: Wait + Abort + AllocGlobal>(rt: &R, blan
 }
 
 /// The slot is held for longer than it is tried. Each try has ended.
-fn busy_to_the_last_try<G: Ledger, R: Wait + Abort + AllocGlobal>(rt: &R, blank: Blank)
+fn busy_to_the_last_try<G: Life, R: Wait + Abort + AllocGlobal>(rt: &R, blank: Blank)
     requires name { blank.name ≡ G.name }
     requires parts { blank.parts ≡ G.parts }
+    requires before { G.before ≡ [] }
     requires sessions { blank.parts ≡ 65 }
 {
     let mut shared = volume::<MemDevice, G, R>(rt, blank, device(rt));
@@ -113,7 +111,7 @@ fn busy_to_the_last_try<G: Ledger, R: Wait + Abort + AllocGlobal>(rt: &R, blank:
 }
 
 /// Sets slots 0 and 1, and ends as it is told.
-fn set_two<D: LogDevice, G: Ledger, R: Wait + Abort>(
+fn set_two<D: LogDevice, G: Life, R: Wait + Abort>(
     client: &mut User<'_, D, G, R>,
     ends: Result<u32, Stop<u32>>,
 ) -> Told {
@@ -126,9 +124,10 @@ fn set_two<D: LogDevice, G: Ledger, R: Wait + Abort>(
 
 /// The device fails at the Commit of the first transaction. Nobody knows whether it lasts, and that
 /// is what is told; it is not tried again.
-fn unsure<G: Ledger, R: Wait + Abort + AllocGlobal>(rt: &R, blank: Blank)
+fn unsure<G: Life, R: Wait + Abort + AllocGlobal>(rt: &R, blank: Blank)
     requires name { blank.name ≡ G.name }
     requires parts { blank.parts ≡ G.parts }
+    requires before { G.before ≡ [] }
     requires sessions { blank.parts ≡ 65 }
 {
     // The header is stored first, and then a Begin, two Updates and the Commit.
@@ -152,9 +151,10 @@ fn unsure<G: Ledger, R: Wait + Abort + AllocGlobal>(rt: &R, blank: Blank)
 }
 
 /// The work has a reason of its own to stop: both of its changes are taken back, and it has ended.
-fn stopped<G: Ledger, R: Wait + Abort + AllocGlobal>(rt: &R, blank: Blank)
+fn stopped<G: Life, R: Wait + Abort + AllocGlobal>(rt: &R, blank: Blank)
     requires name { blank.name ≡ G.name }
     requires parts { blank.parts ≡ G.parts }
+    requires before { G.before ≡ [] }
     requires sessions { blank.parts ≡ 65 }
 {
     let mut shared = volume::<MemDevice, G, R>(rt, blank, device(rt));

@@ -1,13 +1,13 @@
 //! What the tests share: a shared engine over a small volume, its sessions, and what they are told.
 
-ghost use Rattle.std.specs.Prelude.{◌≡◌};
+ghost use Rattle.std.specs.Prelude.{[], ◌≡◌};
 
 use imgcopy_engine::{
-    ChangeKind, ChangeReceipt, LogDevice, Lsn, MAX_SESSIONS, MemDevice, MemStore, PageNo, Receipt,
-    Session, Setup, Shared, SlotNo, StepReceipt, TxnNo, TxnStep,
+    ChangeKind, ChangeReceipt, Life, LogDevice, Lsn, MAX_SESSIONS, MemDevice, MemStore, PageNo,
+    Receipt, Session, Setup, Shared, SlotNo, StepReceipt, TxnNo, TxnStep,
 };
 use std::process::Abort;
-use std::sync::ledger::{Blank, Ledger};
+use std::sync::ledger::Blank;
 
 pub(crate) type Volume<D, G> = Shared<MemStore, D, G>;
 
@@ -20,13 +20,14 @@ pub(crate) fn device(rt: &(impl Abort + AllocGlobal)) -> MemDevice {
 }
 
 /// An engine over four formatted pages.
-pub(crate) fn volume<D: LogDevice + Drop, G: Ledger, R: Abort + AllocGlobal>(
+pub(crate) fn volume<D: LogDevice + Drop, G: Life, R: Abort + AllocGlobal>(
     rt: &R,
     blank: Blank,
     device: D,
 ) -> Volume<D, G>
     requires name { blank.name ≡ G.name }
     requires parts { blank.parts ≡ G.parts }
+    requires before { G.before ≡ [] }
     requires sessions { blank.parts ≡ 65 }
 {
     let setup = Setup {
@@ -38,7 +39,7 @@ pub(crate) fn volume<D: LogDevice + Drop, G: Ledger, R: Abort + AllocGlobal>(
 }
 
 /// A session of an engine that is not shared yet.
-pub(crate) fn new_session<D: LogDevice, G: Ledger>(
+pub(crate) fn new_session<D: LogDevice, G: Life>(
     rt: &(impl Abort + AllocGlobal),
     shared: &mut Volume<D, G>,
 ) -> Session<G> {
