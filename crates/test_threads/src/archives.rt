@@ -1,6 +1,6 @@
 //! Archives of image copies that are written while the engine goes on.
 
-ghost use Rattle.std.specs.Prelude.{◌≡◌, ◌≤◌};
+ghost use Rattle.std.specs.Prelude.{[], ◌≡◌, ◌≤◌};
 
 use crate::volume::{
     Volume, add_one, assert_copy, checkpoint, first_point, full_copy, new_session, only, settled,
@@ -8,27 +8,27 @@ use crate::volume::{
 };
 use copy_coverage::Retired;
 use copy_vault::{ArchiveWriteFault, CopyFault, CopyId, CopyKind, CopyWriteFault, write_archive};
-use engine_run::{OpenGate, Session, Work};
+use engine_run::{Life, OpenGate, Session, Work};
 use page_core::PageNo;
 use std::io;
 use std::io::Write;
 use std::marker::Brand;
 use std::process::Abort;
 use std::sync::Wait;
-use std::sync::ledger::{Blank, Ledger};
+use std::sync::ledger::Blank;
 use std::thread::{Threads, join};
 
 /// A writer that asks for the engine's lock before it takes what it is given. If the lock were held
 /// then, it would wait for ever.
 #[derive(Drop)]
-struct Asking<'a, R: Wait, G: Ledger> {
+struct Asking<'a, R: Wait, G: Life> {
     rt: &'a R,
     shared: &'a Volume<G>,
     bytes: Vec<u8>,
     flushed: u32,
 }
 
-impl<R: Wait, G: Ledger> Write for Asking<'_, R, G> {
+impl<R: Wait, G: Life> Write for Asking<'_, R, G> {
     fn write(&mut self, buf: &[u8]) -> io::Result<usize> {
         if self.shared.flush_pass(self.rt, &OpenGate).is_ok() {
             self.flushed = self.flushed.saturating_add(1);
@@ -61,7 +61,7 @@ impl Write for Short {
 }
 
 /// The archive of copy 1, by a writer that asks for the lock.
-fn asked_archive<G: Ledger>(rt: &(impl Wait + Abort + AllocGlobal), shared: &Volume<G>) -> Vec<u8> {
+fn asked_archive<G: Life>(rt: &(impl Wait + Abort + AllocGlobal), shared: &Volume<G>) -> Vec<u8> {
     let mut writer = Asking {
         rt,
         shared,
@@ -75,7 +75,7 @@ fn asked_archive<G: Ledger>(rt: &(impl Wait + Abort + AllocGlobal), shared: &Vol
 }
 
 /// What a shared engine answers where there is no complete copy, and where the writer fails.
-fn assert_refusals<G: Ledger>(rt: &(impl Wait + Abort + AllocGlobal), shared: &Volume<G>) {
+fn assert_refusals<G: Life>(rt: &(impl Wait + Abort + AllocGlobal), shared: &Volume<G>) {
     let alloc = rt.alloc();
     let none = shared.write_copy(rt, alloc, CopyId(2), &mut Short { left: 4096 });
     assert_eq!(rt; none, Err(CopyWriteFault::Refused(CopyFault::NoCopy)));
@@ -87,12 +87,13 @@ fn assert_refusals<G: Ledger>(rt: &(impl Wait + Abort + AllocGlobal), shared: &V
 
 /// Changes pages in a thread of its own while copy 1 is written, twice, and compares both archives
 /// with that of the copy that the run leaves.
-fn write_beside<G: Ledger + Send + Sync, R: Threads + Wait + Abort + AllocGlobal + Sync>(
+fn write_beside<G: Life + Send + Sync, R: Threads + Wait + Abort + AllocGlobal + Sync>(
     rt: &R,
     blank: Blank,
 )
     requires name { blank.name ≡ G.name }
     requires parts { blank.parts ≡ G.parts }
+    requires before { G.before ≡ [] }
     requires sessions { blank.parts ≡ 65 }
 {
     let mut shared = volume::<G, R>(rt, blank, 8);
@@ -104,7 +105,7 @@ fn write_beside<G: Ledger + Send + Sync, R: Threads + Wait + Abort + AllocGlobal
 }
 
 /// Two archives of copy 1, of which the first is written while pages change.
-fn archives_beside<G: Ledger + Send + Sync, R: Threads + Wait + Abort + AllocGlobal + Sync>(
+fn archives_beside<G: Life + Send + Sync, R: Threads + Wait + Abort + AllocGlobal + Sync>(
     rt: &R,
     shared: &Volume<G>,
     session: &mut Session<G>,
@@ -133,7 +134,7 @@ fn assert_archives(rt: &(impl Abort + AllocGlobal), left: &Retired, archives: &(
 }
 
 /// Changes each page in turn, in transactions of their own.
-fn add_often<G: Ledger>(rt: &(impl Wait + Abort), shared: &Volume<G>, session: &mut Session<G>) {
+fn add_often<G: Life>(rt: &(impl Wait + Abort), shared: &Volume<G>, session: &mut Session<G>) {
     for round in 0..40 {
         add_one(rt, shared, session, PageNo(round % 8));
     }

@@ -1,26 +1,26 @@
 //! Sessions that are given back and taken anew.
 
-ghost use Rattle.std.specs.Prelude.{◌≡◌};
+ghost use Rattle.std.specs.Prelude.{[], ◌≡◌};
 
 use crate::volume::{Volume, add_one, new_session, settled, volume};
-use engine_run::{MAX_SESSIONS, Session, SessionDesk};
+use engine_run::{Life, MAX_SESSIONS, Session, SessionDesk};
 use page_core::{PageNo, SlotNo};
 use std::marker::Brand;
 use std::process::Abort;
 use std::sync::Wait;
-use std::sync::ledger::{Blank, Ledger};
+use std::sync::ledger::Blank;
 use std::thread;
 use std::thread::{Threads, join};
 
 /// A desk at which no session waits.
-fn new_desk<G: Ledger>(rt: &(impl Wait + Abort + AllocGlobal)) -> SessionDesk<G> {
+fn new_desk<G: Life>(rt: &(impl Wait + Abort + AllocGlobal)) -> SessionDesk<G> {
     let desk = SessionDesk::new(rt.alloc()).expect(rt, "memory for a desk");
     assert!(rt; desk.take(rt).is_none());
     desk
 }
 
 /// The next session that waits.
-fn next_session<G: Ledger>(rt: &impl Wait, desk: &SessionDesk<G>) -> Session<G> {
+fn next_session<G: Life>(rt: &impl Wait, desk: &SessionDesk<G>) -> Session<G> {
     for _ in rt.forever() {
         if let Some(session) = desk.take(rt) {
             return session;
@@ -31,7 +31,7 @@ fn next_session<G: Ledger>(rt: &impl Wait, desk: &SessionDesk<G>) -> Session<G> 
 }
 
 /// A hundred users, one after another: each takes a session, adds 1 to a slot, and gives it back.
-fn come_and_go<G: Ledger>(
+fn come_and_go<G: Life>(
     rt: &(impl Wait + Abort),
     shared: &Volume<G>,
     desk: &SessionDesk<G>,
@@ -45,12 +45,13 @@ fn come_and_go<G: Ledger>(
 }
 
 /// Two threads use one session by turns. It has the receipts of both, and the run is settled.
-fn share_a_session<G: Ledger + Send + Sync, R: Threads + Wait + Abort + AllocGlobal + Sync>(
+fn share_a_session<G: Life + Send + Sync, R: Threads + Wait + Abort + AllocGlobal + Sync>(
     rt: &R,
     blank: Blank,
 )
     requires name { blank.name ≡ G.name }
     requires parts { blank.parts ≡ G.parts }
+    requires before { G.before ≡ [] }
     requires sessions { blank.parts ≡ 65 }
 {
     let mut shared = volume::<G, R>(rt, blank, 8);
@@ -74,9 +75,10 @@ fn share_a_session<G: Ledger + Send + Sync, R: Threads + Wait + Abort + AllocGlo
 }
 
 /// All sessions of an engine wait at once, and each has a turn.
-fn wait_at_once<G: Ledger, R: Wait + Abort + AllocGlobal>(rt: &R, blank: Blank)
+fn wait_at_once<G: Life, R: Wait + Abort + AllocGlobal>(rt: &R, blank: Blank)
     requires name { blank.name ≡ G.name }
     requires parts { blank.parts ≡ G.parts }
+    requires before { G.before ≡ [] }
     requires sessions { blank.parts ≡ 65 }
 {
     let mut shared = volume::<G, R>(rt, blank, 8);

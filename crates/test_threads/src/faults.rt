@@ -1,19 +1,19 @@
 //! Copies by many workers, and repairs, over a store whose calls fail.
 
-ghost use Rattle.std.specs.Prelude.{◌≡◌, ◌≤◌};
+ghost use Rattle.std.specs.Prelude.{[], ◌≡◌, ◌≤◌};
 ghost use Rattle.page_core.specs.Volume.{formatted_pages};
 
 use crate::volume::{assert_copy, copied, first_point, full_copy, new_session, only, settled};
 use aries_core::{Refusal, Setup};
 use copy_vault::{CopyId, CopyKind};
-use engine_run::{OpenGate, Session, Shared};
+use engine_run::{Life, OpenGate, Session, Shared};
 use log_store::MemDevice;
 use page_core::{Lsn, PageNo, SlotNo, TxnNo};
 use page_store::{FaultyStore, MemStore};
 use std::marker::Brand;
 use std::process::Abort;
 use std::sync::Wait;
-use std::sync::ledger::{Blank, Ledger};
+use std::sync::ledger::Blank;
 use std::thread::Threads;
 
 type Volume<G> = Shared<FaultyStore, MemDevice, G>;
@@ -28,7 +28,7 @@ fn store(rt: &(impl Abort + AllocGlobal), pages: u32, call: u64) -> FaultyStore
 }
 
 /// An engine over this store, with a checkpoint.
-fn engine_over<G: Ledger, R: Wait + Abort + AllocGlobal>(
+fn engine_over<G: Life, R: Wait + Abort + AllocGlobal>(
     rt: &R,
     blank: Blank,
     pages: u32,
@@ -36,6 +36,7 @@ fn engine_over<G: Ledger, R: Wait + Abort + AllocGlobal>(
 ) -> Volume<G>
     requires name { blank.name ≡ G.name }
     requires parts { blank.parts ≡ G.parts }
+    requires before { G.before ≡ [] }
     requires sessions { blank.parts ≡ 65 }
     requires pages { (1 ≤ pages) × (pages ≤ 65536) }
     requires formatted { store.pages ≡ formatted_pages pages }
@@ -52,13 +53,14 @@ fn engine_over<G: Ledger, R: Wait + Abort + AllocGlobal>(
 
 /// One read of a copy fails: the copy is dropped, so that none can stand on it, and the next one is
 /// complete.
-fn copy_again<G: Ledger + Send + Sync, R: Threads + Wait + Abort + AllocGlobal + Sync>(
+fn copy_again<G: Life + Send + Sync, R: Threads + Wait + Abort + AllocGlobal + Sync>(
     rt: &R,
     blank: Blank,
     call: u64,
 )
     requires name { blank.name ≡ G.name }
     requires parts { blank.parts ≡ G.parts }
+    requires before { G.before ≡ [] }
     requires sessions { blank.parts ≡ 65 }
 {
     let shared = engine_over::<G, R>(rt, blank, 8, store(rt, 8, call));
@@ -80,7 +82,7 @@ fn copy_again<G: Ledger + Send + Sync, R: Threads + Wait + Abort + AllocGlobal +
 }
 
 /// A transaction sets a slot of page 0, and the page is stored.
-fn change_and_store<G: Ledger>(
+fn change_and_store<G: Life>(
     rt: &(impl Wait + Abort),
     shared: &Volume<G>,
     session: &mut Session<G>,
@@ -93,12 +95,13 @@ fn change_and_store<G: Ledger>(
 
 /// A stored page can no more be read: a copy is refused, until the page is repaired from an earlier
 /// copy and the log.
-fn repair_page<G: Ledger + Send + Sync, R: Threads + Wait + Abort + AllocGlobal + Sync>(
+fn repair_page<G: Life + Send + Sync, R: Threads + Wait + Abort + AllocGlobal + Sync>(
     rt: &R,
     blank: Blank,
 )
     requires name { blank.name ≡ G.name }
     requires parts { blank.parts ≡ G.parts }
+    requires before { G.before ≡ [] }
     requires sessions { blank.parts ≡ 65 }
 {
     let mut store = store(rt, 2, 0);

@@ -6,14 +6,14 @@ use crate::settling::assert_refused;
 use crate::volume::{Volume, add_one, assert_copy, full_copy, new_session, only, settled};
 use aries_core::{Engine, Gathered, Setup};
 use copy_vault::CopyKind;
-use engine_run::Session;
+use engine_run::{Life, Session};
 use log_store::MemDevice;
 use page_core::{Lsn, PageNo, SlotNo};
 use page_store::MemStore;
 use std::marker::Brand;
 use std::process::Abort;
 use std::sync::Wait;
-use std::sync::ledger::{Blank, Ledger};
+use std::sync::ledger::Blank;
 use std::thread::Threads;
 
 /// An engine for one thread, in which a transaction has added 5 to a slot.
@@ -37,12 +37,17 @@ fn older_engine(rt: &(impl Abort + AllocGlobal)) -> Engine<MemStore, MemDevice> 
 
 /// A session finds the older number, and adds to it. Its changes are those that the log has got
 /// since, and so the run is settled.
-fn go_on<G: Ledger, R: Wait + Abort + AllocGlobal>(rt: &R, blank: Blank)
+fn go_on<G: Life, R: Wait + Abort + AllocGlobal>(
+    rt: &R,
+    blank: Blank,
+    engine: Engine<MemStore, MemDevice>,
+)
     requires name { blank.name ≡ G.name }
     requires parts { blank.parts ≡ G.parts }
+    requires before { G.before ≡ engine.state.log }
     requires sessions { blank.parts ≡ 65 }
 {
-    let Ok(mut shared) = Volume::<G>::resume(rt.alloc(), blank, older_engine(rt)) else {
+    let Ok(mut shared) = Volume::<G>::resume(rt.alloc(), blank, engine) else {
         panic!(rt; "memory for the sessions");
     };
     let session = go_on_in(rt, &mut shared);
@@ -51,10 +56,7 @@ fn go_on<G: Ledger, R: Wait + Abort + AllocGlobal>(rt: &R, blank: Blank)
 }
 
 /// A session goes on so with an engine that is lent.
-fn go_on_in<G: Ledger>(
-    rt: &(impl Wait + Abort + AllocGlobal),
-    shared: &mut Volume<G>,
-) -> Session<G> {
+fn go_on_in<G: Life>(rt: &(impl Wait + Abort + AllocGlobal), shared: &mut Volume<G>) -> Session<G> {
     assert_eq!(rt; shared.began().records, 3);
     assert_eq!(rt; shared.began().last_copy, 0);
     let mut session = new_session(rt, shared);
@@ -85,15 +87,17 @@ fn copied_engine(rt: &(impl Abort + AllocGlobal)) -> Engine<MemStore, MemDevice>
 }
 
 /// The copy that was there before is not settled as one of the run, and a new one is.
-fn copy_anew<G: Ledger + Send + Sync, R: Threads + Wait + Abort + AllocGlobal + Sync>(
+fn copy_anew<G: Life + Send + Sync, R: Threads + Wait + Abort + AllocGlobal + Sync>(
     rt: &R,
     blank: Blank,
+    engine: Engine<MemStore, MemDevice>,
 )
     requires name { blank.name ≡ G.name }
     requires parts { blank.parts ≡ G.parts }
+    requires before { G.before ≡ engine.state.log }
     requires sessions { blank.parts ≡ 65 }
 {
-    let Ok(shared) = Volume::<G>::resume(rt.alloc(), blank, copied_engine(rt)) else {
+    let Ok(shared) = Volume::<G>::resume(rt.alloc(), blank, engine) else {
         panic!(rt; "memory for the sessions");
     };
     assert_next_copy(rt, &shared);
@@ -104,7 +108,7 @@ fn copy_anew<G: Ledger + Send + Sync, R: Threads + Wait + Abort + AllocGlobal + 
 }
 
 /// Copy 1 is there, and a new one is copy 2.
-fn assert_next_copy<G: Ledger + Send + Sync, R: Threads + Wait + Abort + AllocGlobal + Sync>(
+fn assert_next_copy<G: Life + Send + Sync, R: Threads + Wait + Abort + AllocGlobal + Sync>(
     rt: &R,
     shared: &Volume<G>,
 ) {
@@ -114,10 +118,10 @@ fn assert_next_copy<G: Ledger + Send + Sync, R: Threads + Wait + Abort + AllocGl
 
 #[test]
 fn a_shared_engine_goes_on_from_an_older_one(rt: HostRuntime) {
-    go_on::<Brand, HostRuntime>(&rt, Blank::new(65));
+    go_on::<Brand, HostRuntime>(&rt, Blank::new(65), older_engine(&rt));
 }
 
 #[test]
 fn a_copy_from_before_a_run_is_not_settled(rt: HostRuntime) {
-    copy_anew::<Brand, HostRuntime>(&rt, Blank::new(65));
+    copy_anew::<Brand, HostRuntime>(&rt, Blank::new(65), copied_engine(&rt));
 }

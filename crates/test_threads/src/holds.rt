@@ -1,6 +1,6 @@
 //! Holds of a checkpoint and of a flush pass that wait at a gate while others make calls.
 
-ghost use Rattle.std.specs.Prelude.{◌≡◌};
+ghost use Rattle.std.specs.Prelude.{[], ◌≡◌};
 
 use crate::gates::{ClosedGate, CountingGate};
 use crate::volume::{
@@ -8,23 +8,24 @@ use crate::volume::{
 };
 use aries_core::Refusal;
 use copy_vault::{CopyId, CopyKind};
-use engine_run::{OpenGate, Session, Work};
+use engine_run::{Life, OpenGate, Session, Work};
 use page_core::{Lsn, PageNo, SlotNo, TxnNo};
 use std::marker::Brand;
 use std::process::Abort;
 use std::sync::Wait;
-use std::sync::ledger::{Blank, Ledger};
+use std::sync::ledger::Blank;
 use std::thread::{Threads, join};
 
 const PAGE: PageNo = PageNo(0);
 
 /// A volume of one page, and a session with a transaction.
-fn volume_of_one<G: Ledger, R: Wait + Abort + AllocGlobal>(
+fn volume_of_one<G: Life, R: Wait + Abort + AllocGlobal>(
     rt: &R,
     blank: Blank,
 ) -> (Volume<G>, Session<G>)
     requires name { blank.name ≡ G.name }
     requires parts { blank.parts ≡ G.parts }
+    requires before { G.before ≡ [] }
     requires sessions { blank.parts ≡ 65 }
 {
     let mut shared = volume::<G, R>(rt, blank, 1);
@@ -40,7 +41,7 @@ fn point_of_one(begin: u64, end: u64, redo: u64) -> Work {
 }
 
 /// Settles a run of one session.
-fn settle_one<G: Ledger>(
+fn settle_one<G: Life>(
     rt: &(impl Abort + AllocGlobal),
     session: Session<G>,
     works: &[Work],
@@ -50,7 +51,7 @@ fn settle_one<G: Ledger>(
 }
 
 /// Sets the first slot of the page.
-fn set<G: Ledger>(
+fn set<G: Life>(
     rt: &impl Wait,
     shared: &Volume<G>,
     session: &mut Session<G>,
@@ -61,7 +62,7 @@ fn set<G: Ledger>(
 }
 
 /// Sets the first slot of the page while a hold waits at the gate.
-fn set_at_gate<G: Ledger>(
+fn set_at_gate<G: Life>(
     rt: &(impl Wait + Abort),
     shared: &Volume<G>,
     session: &mut Session<G>,
@@ -75,12 +76,13 @@ fn set_at_gate<G: Ledger>(
 }
 
 /// A change behind the cursor of a checkpoint: its third hold waits until page 0 was changed.
-fn change_behind_the_cursor<
-    G: Ledger + Send + Sync,
-    R: Threads + Wait + Abort + AllocGlobal + Sync,
->(rt: &R, blank: Blank)
+fn change_behind_the_cursor<G: Life + Send + Sync, R: Threads + Wait + Abort + AllocGlobal + Sync>(
+    rt: &R,
+    blank: Blank,
+)
     requires name { blank.name ≡ G.name }
     requires parts { blank.parts ≡ G.parts }
+    requires before { G.before ≡ [] }
     requires sessions { blank.parts ≡ 65 }
 {
     let (shared, mut session) = volume_of_one::<G, R>(rt, blank);
@@ -98,12 +100,13 @@ fn change_behind_the_cursor<
 
 /// A change while its page is written: the second hold of a flush pass waits until page 0 was
 /// changed again, and a checkpoint finds it dirty from that change on.
-fn change_during_a_write<G: Ledger + Send + Sync, R: Threads + Wait + Abort + AllocGlobal + Sync>(
+fn change_during_a_write<G: Life + Send + Sync, R: Threads + Wait + Abort + AllocGlobal + Sync>(
     rt: &R,
     blank: Blank,
 )
     requires name { blank.name ≡ G.name }
     requires parts { blank.parts ≡ G.parts }
+    requires before { G.before ≡ [] }
     requires sessions { blank.parts ≡ 65 }
 {
     let (shared, mut session) = volume_of_one::<G, R>(rt, blank);
@@ -123,7 +126,7 @@ fn change_during_a_write<G: Ledger + Send + Sync, R: Threads + Wait + Abort + Al
 }
 
 /// What a repair of the page answers while a hold waits at the gate.
-fn repair_at_gate<G: Ledger>(
+fn repair_at_gate<G: Life>(
     rt: &(impl Wait + Abort),
     shared: &Volume<G>,
     gate: &ClosedGate,
@@ -136,12 +139,13 @@ fn repair_at_gate<G: Ledger>(
 
 /// A repair of a page while it is written: at the second hold of a flush pass the write has begun,
 /// and has not ended.
-fn repair_during_a_write<G: Ledger + Send + Sync, R: Threads + Wait + Abort + AllocGlobal + Sync>(
+fn repair_during_a_write<G: Life + Send + Sync, R: Threads + Wait + Abort + AllocGlobal + Sync>(
     rt: &R,
     blank: Blank,
 )
     requires name { blank.name ≡ G.name }
     requires parts { blank.parts ≡ G.parts }
+    requires before { G.before ≡ [] }
     requires sessions { blank.parts ≡ 65 }
 {
     let alloc = rt.alloc();
@@ -168,7 +172,7 @@ fn repair_during_a_write<G: Ledger + Send + Sync, R: Threads + Wait + Abort + Al
 }
 
 /// What a flush pass answers while a hold of another one waits at the gate.
-fn flush_at_gate<G: Ledger>(
+fn flush_at_gate<G: Life>(
     rt: &(impl Wait + Abort),
     shared: &Volume<G>,
     gate: &ClosedGate,
@@ -180,7 +184,7 @@ fn flush_at_gate<G: Ledger>(
 }
 
 /// The volume grows by a page while a hold waits at the gate, and that page is changed.
-fn grow_at_gate<G: Ledger>(
+fn grow_at_gate<G: Life>(
     rt: &(impl Wait + Abort),
     shared: &Volume<G>,
     session: &mut Session<G>,
@@ -195,12 +199,13 @@ fn grow_at_gate<G: Ledger>(
 }
 
 /// A page that is added during a flush pass has its turn in it: a checkpoint finds none dirty.
-fn flush_an_added_page<G: Ledger + Send + Sync, R: Threads + Wait + Abort + AllocGlobal + Sync>(
+fn flush_an_added_page<G: Life + Send + Sync, R: Threads + Wait + Abort + AllocGlobal + Sync>(
     rt: &R,
     blank: Blank,
 )
     requires name { blank.name ≡ G.name }
     requires parts { blank.parts ≡ G.parts }
+    requires before { G.before ≡ [] }
     requires sessions { blank.parts ≡ 65 }
 {
     let (shared, mut session) = volume_of_one::<G, R>(rt, blank);
@@ -219,12 +224,13 @@ fn flush_an_added_page<G: Ledger + Send + Sync, R: Threads + Wait + Abort + Allo
 
 /// Two flush passes of one page: the second one ends the write that the first one has begun, and
 /// the first one finds no write. Neither is refused, and the page is clean then.
-fn flush_by_two<G: Ledger + Send + Sync, R: Threads + Wait + Abort + AllocGlobal + Sync>(
+fn flush_by_two<G: Life + Send + Sync, R: Threads + Wait + Abort + AllocGlobal + Sync>(
     rt: &R,
     blank: Blank,
 )
     requires name { blank.name ≡ G.name }
     requires parts { blank.parts ≡ G.parts }
+    requires before { G.before ≡ [] }
     requires sessions { blank.parts ≡ 65 }
 {
     let (shared, mut session) = volume_of_one::<G, R>(rt, blank);
@@ -244,7 +250,7 @@ fn flush_by_two<G: Ledger + Send + Sync, R: Threads + Wait + Abort + AllocGlobal
 }
 
 /// What a checkpoint answers while a hold of another one waits at the gate.
-fn checkpoint_at_gate<G: Ledger>(
+fn checkpoint_at_gate<G: Life>(
     rt: &(impl Wait + Abort),
     shared: &Volume<G>,
     gate: &ClosedGate,
@@ -257,12 +263,13 @@ fn checkpoint_at_gate<G: Ledger>(
 
 /// Two checkpointers: the second one goes on with the checkpoint that the first one has begun, and
 /// the first one finds none open.
-fn checkpoint_by_two<G: Ledger + Send + Sync, R: Threads + Wait + Abort + AllocGlobal + Sync>(
+fn checkpoint_by_two<G: Life + Send + Sync, R: Threads + Wait + Abort + AllocGlobal + Sync>(
     rt: &R,
     blank: Blank,
 )
     requires name { blank.name ≡ G.name }
     requires parts { blank.parts ≡ G.parts }
+    requires before { G.before ≡ [] }
     requires sessions { blank.parts ≡ 65 }
 {
     let (shared, session) = volume_of_one::<G, R>(rt, blank);
@@ -279,9 +286,10 @@ fn checkpoint_by_two<G: Ledger + Send + Sync, R: Threads + Wait + Abort + AllocG
 }
 
 /// A gate is told the page of each hold of a flush pass, and page 0 at each of a checkpoint.
-fn tell_gates<G: Ledger, R: Wait + Abort + AllocGlobal>(rt: &R, blank: Blank)
+fn tell_gates<G: Life, R: Wait + Abort + AllocGlobal>(rt: &R, blank: Blank)
     requires name { blank.name ≡ G.name }
     requires parts { blank.parts ≡ G.parts }
+    requires before { G.before ≡ [] }
     requires sessions { blank.parts ≡ 65 }
 {
     let mut shared = volume::<G, R>(rt, blank, 4);

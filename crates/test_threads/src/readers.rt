@@ -1,15 +1,15 @@
 //! Reads that leave no receipt.
 
-ghost use Rattle.std.specs.Prelude.{◌≡◌};
+ghost use Rattle.std.specs.Prelude.{[], ◌≡◌};
 
 use crate::volume::{Volume, add_one, new_session, settled, volume};
 use aries_core::Refusal;
-use engine_run::Session;
+use engine_run::{Life, Session};
 use page_core::{PageNo, SlotNo};
 use std::marker::Brand;
 use std::process::Abort;
 use std::sync::Wait;
-use std::sync::ledger::{Blank, Ledger};
+use std::sync::ledger::Blank;
 use std::thread;
 use std::thread::{Threads, join};
 
@@ -17,7 +17,7 @@ use std::thread::{Threads, join};
 const SUM: u64 = 200;
 
 /// Adds 1 to the first slot of page 0 in so many transactions.
-fn write<G: Ledger>(
+fn write<G: Life>(
     rt: &(impl Wait + Abort),
     shared: &Volume<G>,
     mut writer: Session<G>,
@@ -29,11 +29,7 @@ fn write<G: Ledger>(
 }
 
 /// Looks at that slot until the writer is done: its number never falls.
-fn watch<G: Ledger>(
-    rt: &(impl Wait + Abort),
-    shared: &Volume<G>,
-    reader: Session<G>,
-) -> Session<G> {
+fn watch<G: Life>(rt: &(impl Wait + Abort), shared: &Volume<G>, reader: Session<G>) -> Session<G> {
     let mut last = 0;
     for _ in rt.forever() {
         let number = reader
@@ -50,7 +46,7 @@ fn watch<G: Ledger>(
 }
 
 /// Peeks at other slots, and at such as are not there. No call left a receipt.
-fn look_round<G: Ledger>(rt: &(impl Wait + Abort), shared: &Volume<G>, reader: &Session<G>) {
+fn look_round<G: Life>(rt: &(impl Wait + Abort), shared: &Volume<G>, reader: &Session<G>) {
     let peek = |page, slot| reader.peek(rt, shared, PageNo(page), SlotNo(slot));
     assert_eq!(rt; peek(0, 1), Ok(0));
     assert_eq!(rt; peek(1, 0), Ok(0));
@@ -60,12 +56,13 @@ fn look_round<G: Ledger>(rt: &(impl Wait + Abort), shared: &Volume<G>, reader: &
 }
 
 /// A session peeks while another one commits, and the run is settled.
-fn peek_beside<G: Ledger + Send + Sync, R: Threads + Wait + Abort + AllocGlobal + Sync>(
+fn peek_beside<G: Life + Send + Sync, R: Threads + Wait + Abort + AllocGlobal + Sync>(
     rt: &R,
     blank: Blank,
 )
     requires name { blank.name ≡ G.name }
     requires parts { blank.parts ≡ G.parts }
+    requires before { G.before ≡ [] }
     requires sessions { blank.parts ≡ 65 }
 {
     let mut shared = volume::<G, R>(rt, blank, 8);

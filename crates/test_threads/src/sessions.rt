@@ -1,12 +1,12 @@
 //! Sessions, a flusher and a checkpointer of one engine, in threads.
 
-ghost use Rattle.std.specs.Prelude.{◌≡◌, ◌≤◌};
+ghost use Rattle.std.specs.Prelude.{[], ◌≡◌, ◌≤◌};
 
 use crate::volume::{Volume, add_one, full_copy, new_session, settled, volume};
 use aries_core::{Refusal, SteppedBack};
 use copy_coverage::Retired;
 use copy_vault::{CopyId, CopyKind};
-use engine_run::{OpenGate, Session, TxnStep, Work};
+use engine_run::{Life, OpenGate, Session, TxnStep, Work};
 use fuzzy_ckpt::Point;
 use log_records::Record;
 use loser_undo::{Redone, undo_all};
@@ -15,12 +15,12 @@ use page_core::{Page, PageNo, SlotNo, TxnNo, formatted_pages};
 use std::marker::Brand;
 use std::process::Abort;
 use std::sync::Wait;
-use std::sync::ledger::{Blank, Ledger};
+use std::sync::ledger::Blank;
 use std::thread;
 use std::thread::{Threads, join};
 
 /// A transaction sets a slot, and takes that back: it goes on as if it had not.
-fn set_and_go_back<G: Ledger>(
+fn set_and_go_back<G: Life>(
     rt: &(impl Wait + Abort),
     shared: &Volume<G>,
     session: &mut Session<G>,
@@ -39,7 +39,7 @@ fn set_and_go_back<G: Ledger>(
 
 /// Fifty transactions of a session: each adds 1 to a slot that all sessions share, and sets a slot
 /// of its own, at the second try if it goes back.
-fn work<G: Ledger>(
+fn work<G: Life>(
     rt: &(impl Wait + Abort),
     shared: &Volume<G>,
     session: &mut Session<G>,
@@ -64,7 +64,7 @@ fn work<G: Ledger>(
 }
 
 /// A full copy by three workers.
-fn copy<G: Ledger + Send + Sync, R: Threads + Wait + Abort + AllocGlobal + Sync>(
+fn copy<G: Life + Send + Sync, R: Threads + Wait + Abort + AllocGlobal + Sync>(
     rt: &R,
     shared: &Volume<G>,
 ) -> Work {
@@ -74,14 +74,14 @@ fn copy<G: Ledger + Send + Sync, R: Threads + Wait + Abort + AllocGlobal + Sync>
 }
 
 /// Twenty flush passes.
-fn flush<G: Ledger>(rt: &(impl Wait + Abort), shared: &Volume<G>) {
+fn flush<G: Life>(rt: &(impl Wait + Abort), shared: &Volume<G>) {
     for _ in 0..20 {
         shared.flush_pass(rt, &OpenGate).expect(rt, "flush");
     }
 }
 
 /// Repairs page 7 twenty times from copy 1. A flusher may have begun to write it.
-fn repair<G: Ledger>(rt: &(impl Wait + Abort), shared: &Volume<G>) {
+fn repair<G: Life>(rt: &(impl Wait + Abort), shared: &Volume<G>) {
     for _ in 0..20 {
         let done = shared.repair(rt, CopyId(1), PageNo(7));
         assert!(rt; matches!(done, Ok(_) | Err(Refusal::WriteBegun)));
@@ -89,13 +89,13 @@ fn repair<G: Ledger>(rt: &(impl Wait + Abort), shared: &Volume<G>) {
 }
 
 /// Grows the volume from eight pages to twelve.
-fn grow<G: Ledger>(rt: &(impl Wait + Abort), shared: &Volume<G>) {
+fn grow<G: Life>(rt: &(impl Wait + Abort), shared: &Volume<G>) {
     shared.extend(rt, 12).expect(rt, "extend");
     assert_eq!(rt; shared.extend(rt, 12), Err(Refusal::NotLarger(12)));
 }
 
 /// A transaction that is taken back.
-fn roll_back<G: Ledger>(
+fn roll_back<G: Life>(
     rt: &(impl Wait + Abort),
     shared: &Volume<G>,
     session: &mut Session<G>,
@@ -115,7 +115,7 @@ fn roll_back<G: Ledger>(
 }
 
 /// Takes a checkpoint of so many pages, before which every page was written.
-fn clean_checkpoint<G: Ledger>(rt: &(impl Wait + Abort), shared: &Volume<G>, count: u32) -> Work {
+fn clean_checkpoint<G: Life>(rt: &(impl Wait + Abort), shared: &Volume<G>, count: u32) -> Work {
     match shared.checkpoint(rt, &OpenGate) {
         Ok(
             Work::Pointed(
@@ -190,7 +190,7 @@ impl Beside {
 
 /// Four sessions work at the same time, beside a flusher and a copy by three workers, and beside
 /// what else is done that day.
-fn work_together<G: Ledger + Send + Sync, R: Threads + Wait + Abort + AllocGlobal + Sync>(
+fn work_together<G: Life + Send + Sync, R: Threads + Wait + Abort + AllocGlobal + Sync>(
     rt: &R,
     shared: &Volume<G>,
     workers: &mut [Session<G>],
@@ -229,11 +229,7 @@ fn work_together<G: Ledger + Send + Sync, R: Threads + Wait + Abort + AllocGloba
 }
 
 /// What the fifth session does once the others have ended, and one flush pass more.
-fn end_the_day<G: Ledger>(
-    rt: &(impl Wait + Abort),
-    shared: &Volume<G>,
-    workers: &mut [Session<G>],
-) {
+fn end_the_day<G: Life>(rt: &(impl Wait + Abort), shared: &Volume<G>, workers: &mut [Session<G>]) {
     let Some(fifth) = workers.last_mut() else {
         panic!(rt; "five sessions");
     };
@@ -307,12 +303,13 @@ fn assert_restored(
 }
 
 /// An engine over eight pages, and five sessions of it.
-fn engine_for_five<G: Ledger, R: Abort + AllocGlobal>(
+fn engine_for_five<G: Life, R: Abort + AllocGlobal>(
     rt: &R,
     blank: Blank,
 ) -> (Volume<G>, Vec<Session<G>>)
     requires name { blank.name ≡ G.name }
     requires parts { blank.parts ≡ G.parts }
+    requires before { G.before ≡ [] }
     requires sessions { blank.parts ≡ 65 }
 {
     let mut shared = volume::<G, R>(rt, blank, 8);
@@ -328,7 +325,7 @@ fn engine_for_five<G: Ledger, R: Abort + AllocGlobal>(
 /// Asserts how many receipts the sessions have. Each of 50 transactions left five, and two more
 /// where it went back: none is of a savepoint. The fifth session read, and was answered six times
 /// when it took its transaction back.
-fn assert_receipts<G: Ledger>(rt: &impl Abort, workers: &[Session<G>], goes_back: bool) {
+fn assert_receipts<G: Life>(rt: &impl Abort, workers: &[Session<G>], goes_back: bool) {
     assert_eq!(rt; workers.len(), 5);
     let each: usize = if goes_back { 350 } else { 250 };
     for (worker, count) in workers.iter().zip([each, each, each, each, 7]) {
@@ -350,13 +347,14 @@ fn works_of(rt: &(impl Abort + AllocGlobal), points: [Work; 2], copies: u32) -> 
 
 /// A run of five sessions, a flusher, two checkpoints and a copy, which is settled, and restored
 /// from this copy; an earlier copy repairs a page meanwhile, or the volume grows, if so told.
-fn play<G: Ledger + Send + Sync, R: Threads + Wait + Abort + AllocGlobal + Sync>(
+fn play<G: Life + Send + Sync, R: Threads + Wait + Abort + AllocGlobal + Sync>(
     rt: &R,
     blank: Blank,
     day: Day,
 )
     requires name { blank.name ≡ G.name }
     requires parts { blank.parts ≡ G.parts }
+    requires before { G.before ≡ [] }
     requires sessions { blank.parts ≡ 65 }
 {
     let (shared, mut workers) = engine_for_five::<G, R>(rt, blank);
@@ -377,9 +375,10 @@ fn play<G: Ledger + Send + Sync, R: Threads + Wait + Abort + AllocGlobal + Sync>
 
 /// A session reads a slot again each time another one has changed it and committed. A transaction
 /// that was taken back is there no more.
-fn read_again<G: Ledger, R: Wait + Abort + AllocGlobal>(rt: &R, blank: Blank)
+fn read_again<G: Life, R: Wait + Abort + AllocGlobal>(rt: &R, blank: Blank)
     requires name { blank.name ≡ G.name }
     requires parts { blank.parts ≡ G.parts }
+    requires before { G.before ≡ [] }
     requires sessions { blank.parts ≡ 65 }
 {
     let mut shared = volume::<G, R>(rt, blank, 8);

@@ -1,6 +1,6 @@
 //! The end of a run: what is refused, and what is given back then.
 
-ghost use Rattle.std.specs.Prelude.{◌≡◌};
+ghost use Rattle.std.specs.Prelude.{[], ◌≡◌};
 
 use crate::volume::{
     Volume, add_one, assert_copy, checkpoint, first_point, full_copy, new_session, only, pointed,
@@ -8,19 +8,19 @@ use crate::volume::{
 };
 use aries_core::Refusal;
 use copy_vault::{CopyId, CopyKind};
-use engine_run::{OpenGate, Session, SettleFault, Unsettled, Work, settle};
+use engine_run::{Life, OpenGate, Session, SettleFault, Unsettled, Work, settle};
 use page_core::{Lsn, PageNo, SlotNo};
 use std::marker::Brand;
 use std::process::Abort;
 use std::sync::Wait;
-use std::sync::ledger::{Blank, Ledger};
+use std::sync::ledger::Blank;
 use std::thread::Threads;
 
 /// The sessions and the engine of a run.
 pub(crate) type Run<G> = (Vec<Session<G>>, Volume<G>);
 
 /// Settles a run that is not, and hands back what is given back.
-pub(crate) fn assert_refused<G: Ledger>(
+pub(crate) fn assert_refused<G: Life>(
     rt: &(impl Wait + Abort + AllocGlobal),
     run: Run<G>,
     works: &[Work],
@@ -50,12 +50,13 @@ fn assert_line(rt: &(impl Abort + AllocGlobal), fault: SettleFault, line: &str) 
 }
 
 /// An engine with a checkpoint, and two sessions that each made a change.
-fn engine_for_two<G: Ledger, R: Wait + Abort + AllocGlobal>(
+fn engine_for_two<G: Life, R: Wait + Abort + AllocGlobal>(
     rt: &R,
     blank: Blank,
 ) -> (Volume<G>, Session<G>, Session<G>)
     requires name { blank.name ≡ G.name }
     requires parts { blank.parts ≡ G.parts }
+    requires before { G.before ≡ [] }
     requires sessions { blank.parts ≡ 65 }
 {
     let mut shared = volume::<G, R>(rt, blank, 8);
@@ -68,9 +69,10 @@ fn engine_for_two<G: Ledger, R: Wait + Abort + AllocGlobal>(
 }
 
 /// One of two sessions is left out. The engine goes on, and the run is settled once none is.
-fn leave_one_out<G: Ledger, R: Wait + Abort + AllocGlobal>(rt: &R, blank: Blank)
+fn leave_one_out<G: Life, R: Wait + Abort + AllocGlobal>(rt: &R, blank: Blank)
     requires name { blank.name ≡ G.name }
     requires parts { blank.parts ≡ G.parts }
+    requires before { G.before ≡ [] }
     requires sessions { blank.parts ≡ 65 }
 {
     let (shared, first, mut second) = engine_for_two::<G, R>(rt, blank);
@@ -84,9 +86,10 @@ fn leave_one_out<G: Ledger, R: Wait + Abort + AllocGlobal>(rt: &R, blank: Blank)
 
 /// Points and copies that do not stand, and those that come twice, are refused; then the run is
 /// settled. The order in which sessions are given does not matter.
-fn refuse_works<G: Ledger, R: Wait + Abort + AllocGlobal>(rt: &R, blank: Blank)
+fn refuse_works<G: Life, R: Wait + Abort + AllocGlobal>(rt: &R, blank: Blank)
     requires name { blank.name ≡ G.name }
     requires parts { blank.parts ≡ G.parts }
+    requires before { G.before ≡ [] }
     requires sessions { blank.parts ≡ 65 }
 {
     let (shared, first, second) = engine_for_two::<G, R>(rt, blank);
@@ -111,9 +114,10 @@ fn refuse_works<G: Ledger, R: Wait + Abort + AllocGlobal>(rt: &R, blank: Blank)
 
 /// Points whose page counts are not those of the log where they began are refused, that before a
 /// growth of the volume and that behind it; then the run is settled.
-fn refuse_page_counts<G: Ledger, R: Wait + Abort + AllocGlobal>(rt: &R, blank: Blank)
+fn refuse_page_counts<G: Life, R: Wait + Abort + AllocGlobal>(rt: &R, blank: Blank)
     requires name { blank.name ≡ G.name }
     requires parts { blank.parts ≡ G.parts }
+    requires before { G.before ≡ [] }
     requires sessions { blank.parts ≡ 65 }
 {
     let shared = volume::<G, R>(rt, blank, 8);
@@ -143,12 +147,13 @@ fn second_copy() -> Work {
 
 /// A copy is not begun without a checkpoint or a complete parent, and one that is given twice is
 /// refused.
-fn refuse_copies<G: Ledger + Send + Sync, R: Threads + Wait + Abort + AllocGlobal + Sync>(
+fn refuse_copies<G: Life + Send + Sync, R: Threads + Wait + Abort + AllocGlobal + Sync>(
     rt: &R,
     blank: Blank,
 )
     requires name { blank.name ≡ G.name }
     requires parts { blank.parts ≡ G.parts }
+    requires before { G.before ≡ [] }
     requires sessions { blank.parts ≡ 65 }
 {
     let shared = volume::<G, R>(rt, blank, 8);

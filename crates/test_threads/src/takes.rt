@@ -1,19 +1,19 @@
 //! Takes of a copy by two workers that are at a gate at the same time.
 
-ghost use Rattle.std.specs.Prelude.{◌≡◌};
+ghost use Rattle.std.specs.Prelude.{[], ◌≡◌};
 
 use crate::gates::{CountingGate, LOOKS};
 use crate::volume::{
     Volume, checkpoint, copied, first_point, full_copy, new_session, only, pointed, settled, volume,
 };
 use copy_vault::CopyKind;
-use engine_run::{HoldGate, OpenGate, Session};
+use engine_run::{HoldGate, Life, OpenGate, Session};
 use page_core::{Lsn, PageNo};
 use std::marker::Brand;
 use std::process::Abort;
 use std::sync::Wait;
 use std::sync::atomic::{AtomicU64, Ordering};
-use std::sync::ledger::{Blank, Ledger};
+use std::sync::ledger::Blank;
 use std::thread;
 use std::thread::{Threads, join};
 
@@ -71,7 +71,7 @@ impl HoldGate for TakesAtOnce {
 }
 
 /// A call of a session, while a take is held.
-fn begin_at_gate<G: Ledger>(
+fn begin_at_gate<G: Life>(
     rt: &(impl Wait + Abort),
     shared: &Volume<G>,
     session: &mut Session<G>,
@@ -84,12 +84,13 @@ fn begin_at_gate<G: Ledger>(
 
 /// Two workers of a copy are at work at the same time, and not under the lock. The gate is told the
 /// number of each, and each page once.
-fn copy_by_two<G: Ledger + Send + Sync, R: Threads + Wait + Abort + AllocGlobal + Sync>(
+fn copy_by_two<G: Life + Send + Sync, R: Threads + Wait + Abort + AllocGlobal + Sync>(
     rt: &R,
     blank: Blank,
 )
     requires name { blank.name ≡ G.name }
     requires parts { blank.parts ≡ G.parts }
+    requires before { G.before ≡ [] }
     requires sessions { blank.parts ≡ 65 }
 {
     let alloc = rt.alloc();
@@ -112,12 +113,13 @@ fn copy_by_two<G: Ledger + Send + Sync, R: Threads + Wait + Abort + AllocGlobal 
 
 /// The volume grows behind a checkpoint: a copy is of the pages that there were before, and the
 /// workers of the next one, whose checkpoint came later, take all.
-fn copy_a_grown_volume<G: Ledger + Send + Sync, R: Threads + Wait + Abort + AllocGlobal + Sync>(
+fn copy_a_grown_volume<G: Life + Send + Sync, R: Threads + Wait + Abort + AllocGlobal + Sync>(
     rt: &R,
     blank: Blank,
 )
     requires name { blank.name ≡ G.name }
     requires parts { blank.parts ≡ G.parts }
+    requires before { G.before ≡ [] }
     requires sessions { blank.parts ≡ 65 }
 {
     let alloc = rt.alloc();

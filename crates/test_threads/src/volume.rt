@@ -1,31 +1,28 @@
 //! What the tests share: a shared engine over a small volume. Each of these stops its test itself
 //! where memory is refused, so that the tests are cheap to prove.
 
-ghost use Rattle.std.specs.Prelude.{◌≡◌, ◌≤◌};
+ghost use Rattle.std.specs.Prelude.{[], ◌≡◌, ◌≤◌};
 
 use aries_core::{Refusal, Setup};
 use copy_coverage::Retired;
 use copy_vault::{CopyId, CopyKind};
-use engine_run::{MAX_SESSIONS, OpenGate, Session, Shared, Work, settle};
+use engine_run::{Life, MAX_SESSIONS, OpenGate, Session, Shared, Work, settle};
 use fuzzy_ckpt::Point;
 use log_store::MemDevice;
 use page_core::{Lsn, PageNo, SlotNo};
 use page_store::{MemStore, PageStore};
 use std::process::Abort;
 use std::sync::Wait;
-use std::sync::ledger::{Blank, Ledger};
+use std::sync::ledger::Blank;
 use std::thread::Threads;
 
 pub(crate) type Volume<G> = Shared<MemStore, MemDevice, G>;
 
 /// An engine over so many formatted pages, in memory.
-pub(crate) fn volume<G: Ledger, R: Abort + AllocGlobal>(
-    rt: &R,
-    blank: Blank,
-    pages: u32,
-) -> Volume<G>
+pub(crate) fn volume<G: Life, R: Abort + AllocGlobal>(rt: &R, blank: Blank, pages: u32) -> Volume<G>
     requires name { blank.name ≡ G.name }
     requires parts { blank.parts ≡ G.parts }
+    requires before { G.before ≡ [] }
     requires sessions { blank.parts ≡ 65 }
     requires pages { (1 ≤ pages) × (pages ≤ 65536) }
 {
@@ -40,7 +37,7 @@ pub(crate) fn volume<G: Ledger, R: Abort + AllocGlobal>(
 }
 
 /// A session of an engine that is not shared yet.
-pub(crate) fn new_session<S: PageStore, G: Ledger>(
+pub(crate) fn new_session<S: PageStore, G: Life>(
     rt: &(impl Abort + AllocGlobal),
     shared: &mut Shared<S, MemDevice, G>,
 ) -> Session<G> {
@@ -49,7 +46,7 @@ pub(crate) fn new_session<S: PageStore, G: Ledger>(
 }
 
 /// A list of this session alone.
-pub(crate) fn only<G: Ledger>(
+pub(crate) fn only<G: Life>(
     rt: &(impl Abort + AllocGlobal),
     session: Session<G>,
 ) -> Vec<Session<G>> {
@@ -59,7 +56,7 @@ pub(crate) fn only<G: Ledger>(
 /// Makes a copy by so many workers, and asserts what is answered.
 pub(crate) fn assert_copy<
     S: PageStore + Send,
-    G: Ledger + Send + Sync,
+    G: Life + Send + Sync,
     R: Threads + Wait + Abort + AllocGlobal + Sync,
 >(
     rt: &R,
@@ -75,7 +72,7 @@ pub(crate) fn assert_copy<
 }
 
 /// What the engine of a run leaves, which is settled.
-pub(crate) fn settled<S: PageStore + Drop, G: Ledger>(
+pub(crate) fn settled<S: PageStore + Drop, G: Life>(
     rt: &(impl Abort + AllocGlobal),
     sessions: Vec<Session<G>>,
     works: &[Work],
@@ -88,7 +85,7 @@ pub(crate) fn settled<S: PageStore + Drop, G: Ledger>(
 }
 
 /// Adds 1 to a slot, and commits.
-pub(crate) fn add_one<G: Ledger>(
+pub(crate) fn add_one<G: Life>(
     rt: &(impl Wait + Abort),
     shared: &Volume<G>,
     session: &mut Session<G>,
@@ -102,7 +99,7 @@ pub(crate) fn add_one<G: Ledger>(
 }
 
 /// Takes the first checkpoint of an engine without records, over so many pages.
-pub(crate) fn checkpoint<G: Ledger>(rt: &(impl Wait + Abort), shared: &Volume<G>, pages: u32) {
+pub(crate) fn checkpoint<G: Life>(rt: &(impl Wait + Abort), shared: &Volume<G>, pages: u32) {
     let work = shared.checkpoint(rt, &OpenGate);
     assert_eq!(rt; work, Ok(first_point(pages)));
 }

@@ -1,4 +1,8 @@
+use Rattle.std.specs.Prelude.{[]}
 use Rattle.test_threads.proofs.sessions.a_page_is_repaired_beside_sessions.Given as goal
 
-abbrev pub ghosts-play : goal.ghosts-play
-ghosts-play g a = record { name = a.blank.name; parts = a.blank.parts }
+abbrev pub ghosts-play-G-Ledger : goal.ghosts-play-G-Ledger
+ghosts-play-G-Ledger g a = record { name = a.blank.name; parts = a.blank.parts }
+
+abbrev pub ghosts-play-G-Life : goal.ghosts-play-G-Life
+ghosts-play-G-Life g a = record { before = [] }
