@@ -1,15 +1,15 @@
 //! The run that is measured.
 
-ghost use Rattle.std.specs.Prelude.{◌≡◌, ◌≤◌, length};
+ghost use Rattle.std.specs.Prelude.{[], ◌≡◌, ◌≤◌, length};
 
 use crate::case::Case;
 use crate::user::{User, Volume};
-use imgcopy_engine::{CopyKind, LogDevice, MAX_SESSIONS, MemStore, OpenGate, PageNo, Setup};
+use imgcopy_engine::{CopyKind, Life, LogDevice, MAX_SESSIONS, MemStore, OpenGate, PageNo, Setup};
 use std::alloc::Global;
 use std::rt::Clock;
 use std::sync::Wait;
 use std::sync::atomic::{AtomicU64, Ordering};
-use std::sync::ledger::{Blank, Ledger};
+use std::sync::ledger::Blank;
 use std::thread;
 use std::thread::{Threads, join};
 use std::time::{Duration, Instant};
@@ -21,7 +21,7 @@ pub struct Measured {
     pub calls: u64,
 }
 
-fn volume<D: LogDevice + Drop, G: Ledger>(
+fn volume<D: LogDevice + Drop, G: Life>(
     alloc: Global,
     blank: Blank,
     pages: u32,
@@ -29,6 +29,7 @@ fn volume<D: LogDevice + Drop, G: Ledger>(
 ) -> Option<Volume<D, G>>
     requires name { blank.name ≡ G.name }
     requires parts { blank.parts ≡ G.parts }
+    requires before { G.before ≡ [] }
     requires sessions { blank.parts ≡ 65 }
     requires some { 1 ≤ pages }
     requires few { pages ≤ 65536 }
@@ -41,7 +42,7 @@ fn volume<D: LogDevice + Drop, G: Ledger>(
     Volume::<D, G>::new(alloc, blank, setup, store, device).ok()
 }
 
-fn users_of<D: LogDevice, G: Ledger>(
+fn users_of<D: LogDevice, G: Life>(
     alloc: Global,
     shared: &mut Volume<D, G>,
     case: &Case,
@@ -67,7 +68,7 @@ fn users_of<D: LogDevice, G: Ledger>(
 fn copy<D, G, R>(rt: &R, alloc: Global, shared: &Volume<D, G>, case: &Case) -> Option<u128>
 where
     D: LogDevice + Send,
-    G: Ledger + Send + Sync,
+    G: Life + Send + Sync,
     R: Threads + Wait + Clock + Sync,
     requires { case.now.workers ≤ 64 }
 {
@@ -91,7 +92,7 @@ fn beside<D, G, R>(
 ) -> Option<u128>
 where
     D: LogDevice + Send,
-    G: Ledger + Send + Sync,
+    G: Life + Send + Sync,
     R: Threads + Wait + Clock + Sync,
     requires workers { case.now.workers ≤ 64 }
     requires users { 1 ≤ length users.old }
@@ -122,7 +123,7 @@ where
 }
 
 /// How many calls all users were answered; None where one was refused a call.
-fn calls_of<G: Ledger>(users: &[User<G>]) -> Option<u64> {
+fn calls_of<G: Life>(users: &[User<G>]) -> Option<u64> {
     let mut calls = 0u64;
     for user in users {
         user.ended.ok()?;
@@ -140,7 +141,7 @@ fn measured_on<D, G, R>(
 ) -> Option<Measured>
 where
     D: LogDevice + Send,
-    G: Ledger + Send + Sync,
+    G: Life + Send + Sync,
     R: Threads + Wait + Clock + Sync,
     requires { case.now.workers ≤ 64 }
 {
@@ -165,10 +166,11 @@ pub fn measure<D, G, R>(
 ) -> Option<Measured>
 where
     D: LogDevice + Send + Drop,
-    G: Ledger + Send + Sync,
+    G: Life + Send + Sync,
     R: Threads + Wait + Clock + Sync,
     requires name { blank.name ≡ G.name }
     requires parts { blank.parts ≡ G.parts }
+    requires before { G.before ≡ [] }
     requires sessions { blank.parts ≡ 65 }
     requires some { 1 ≤ case.now.pages }
     requires few { case.now.pages ≤ 65536 }

@@ -1,17 +1,16 @@
 //! A session that makes calls until it is told to stop.
 
 use crate::case::Shape;
-use imgcopy_engine::{LogDevice, MemStore, PageNo, Refusal, Session, Shared, SlotNo};
+use imgcopy_engine::{Life, LogDevice, MemStore, PageNo, Refusal, Session, Shared, SlotNo};
 use std::sync::Wait;
 use std::sync::atomic::{AtomicU64, Ordering};
-use std::sync::ledger::Ledger;
 
 /// An engine behind a lock, with pages in memory and a log on any device.
 pub type Volume<D, G> = Shared<MemStore, D, G>;
 
 /// A session, the page that it changes, what its transactions do, and how many calls it has made.
 #[derive(Drop)]
-pub struct User<G: Ledger> {
+pub struct User<G: Life> {
     pub session: Session<G>,
     pub page: PageNo,
     pub shape: Shape,
@@ -19,7 +18,7 @@ pub struct User<G: Ledger> {
     pub ended: Result<(), Refusal>,
 }
 
-impl<G: Ledger> User<G> {
+impl<G: Life> User<G> {
     /// A transaction of the shape.
     fn transaction<D: LogDevice>(
         &mut self,

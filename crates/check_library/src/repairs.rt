@@ -1,12 +1,12 @@
 //! Days of a shared engine on which the page that all sessions change is repaired meanwhile, and the
 //! volume grows.
 
-ghost use Rattle.std.specs.Prelude.{◌≡◌};
+ghost use Rattle.std.specs.Prelude.{[], ◌≡◌};
 
 use aries_core::{Refusal, Setup};
 use copy_coverage::Retired;
 use copy_vault::{CopyId, CopyKind};
-use engine_run::{MAX_SESSIONS, OpenGate, Session, Shared, Work, settle};
+use engine_run::{Life, MAX_SESSIONS, OpenGate, Session, Shared, Work, settle};
 use log_store::MemDevice;
 use media_restore::load;
 use page_core::{Page, PageNo, SlotNo, formatted_pages};
@@ -14,7 +14,7 @@ use page_store::MemStore;
 use std::alloc::Global;
 use std::marker::Brand;
 use std::sync::Wait;
-use std::sync::ledger::{Blank, Ledger};
+use std::sync::ledger::Blank;
 use std::thread;
 use std::thread::{Threads, join};
 
@@ -46,12 +46,12 @@ type Volume<G> = Shared<MemStore, MemDevice, G>;
 
 /// One who works on a day, with the refusal that ended it, if there was one.
 #[derive(Drop)]
-struct Hand<G: Ledger> {
+struct Hand<G: Life> {
     session: Session<G>,
     ended: Result<(), Refusal>,
 }
 
-impl<G: Ledger> Hand<G> {
+impl<G: Life> Hand<G> {
     /// Transactions that each add 1 to the slot.
     fn add(&mut self, rt: &impl Wait, shared: &Volume<G>) -> Result<(), Refusal> {
         for _ in 0..ROUNDS {
@@ -79,7 +79,7 @@ impl<G: Ledger> Hand<G> {
 }
 
 /// Writes the pages that are dirty, pass by pass.
-fn flush<G: Ledger>(rt: &impl Wait, shared: &Volume<G>) -> Result<(), Refusal> {
+fn flush<G: Life>(rt: &impl Wait, shared: &Volume<G>) -> Result<(), Refusal> {
     for _ in 0..PASSES {
         shared.flush_pass(rt, &OpenGate)?;
     }
@@ -87,7 +87,7 @@ fn flush<G: Ledger>(rt: &impl Wait, shared: &Volume<G>) -> Result<(), Refusal> {
 }
 
 /// Repairs the page from copy 1, also where the other one has begun to write it and it is refused.
-fn repair<G: Ledger>(rt: &impl Wait, shared: &Volume<G>) -> Result<(), Refusal> {
+fn repair<G: Life>(rt: &impl Wait, shared: &Volume<G>) -> Result<(), Refusal> {
     for _ in 0..PASSES {
         match shared.repair(rt, CopyId(1), PAGE) {
             Ok(_) | Err(Refusal::WriteBegun) => {}
@@ -99,7 +99,7 @@ fn repair<G: Ledger>(rt: &impl Wait, shared: &Volume<G>) -> Result<(), Refusal> 
 
 /// Has all of them work at the same time, beside a copy by three workers, and gives what that
 /// answers.
-fn work<G: Ledger + Send + Sync, R: Threads + Wait + Sync>(
+fn work<G: Life + Send + Sync, R: Threads + Wait + Sync>(
     rt: &R,
     alloc: Global,
     shared: &Volume<G>,
@@ -153,9 +153,10 @@ fn restores(rt: &(impl Threads + Sync), alloc: Global, retired: Retired) -> Opti
 }
 
 /// A shared engine, and those who work on it.
-fn opened<G: Ledger>(alloc: Global, blank: Blank) -> Option<(Volume<G>, Vec<Hand<G>>)>
+fn opened<G: Life>(alloc: Global, blank: Blank) -> Option<(Volume<G>, Vec<Hand<G>>)>
     requires name { blank.name ≡ G.name }
     requires parts { blank.parts ≡ G.parts }
+    requires before { G.before ≡ [] }
     requires sessions { blank.parts ≡ 65 }
 {
     let store = MemStore::new(alloc, SETUP.pages).ok()?;
@@ -179,13 +180,14 @@ fn opened<G: Ledger>(alloc: Global, blank: Blank) -> Option<(Volume<G>, Vec<Hand
 
 /// A day: a checkpoint, a copy, and then all at the same time. Says whether the run is settled and
 /// the second copy restores it; None where a call is refused.
-fn day<G: Ledger + Send + Sync, R: Threads + Wait + Sync>(
+fn day<G: Life + Send + Sync, R: Threads + Wait + Sync>(
     rt: &R,
     alloc: Global,
     blank: Blank,
 ) -> Option<bool>
     requires name { blank.name ≡ G.name }
     requires parts { blank.parts ≡ G.parts }
+    requires before { G.before ≡ [] }
     requires sessions { blank.parts ≡ 65 }
 {
     let (shared, mut hands) = opened::<G>(alloc, blank)?;

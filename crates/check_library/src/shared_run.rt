@@ -1,12 +1,14 @@
 //! A run of a shared engine, with a copy by three workers. A call that is refused for lack of
 //! memory, or of a thread, is made again, and so is `settle`, with what it gave back.
 
-ghost use Rattle.std.specs.Prelude.{◌≡◌};
+ghost use Rattle.std.specs.Prelude.{[], ◌≡◌};
 
 use aries_core::{Refusal, Setup};
 use copy_coverage::Retired;
 use copy_vault::{CopyId, CopyKind};
-use engine_run::{MAX_SESSIONS, OpenGate, Session, SettleFault, Shared, Unsettled, Work, settle};
+use engine_run::{
+    Life, MAX_SESSIONS, OpenGate, Session, SettleFault, Shared, Unsettled, Work, settle,
+};
 use log_records::Record;
 use log_store::MemDevice;
 use media_restore::{LoadFault, load};
@@ -15,7 +17,7 @@ use page_store::MemStore;
 use std::alloc::Global;
 use std::marker::Brand;
 use std::sync::Wait;
-use std::sync::ledger::{Blank, Ledger};
+use std::sync::ledger::Blank;
 use std::thread::Threads;
 
 const SETUP: Setup = Setup {
@@ -40,9 +42,10 @@ fn was_refused<T>(reply: &Result<T, Refusal>, again: &mut bool) -> bool {
 }
 
 /// A shared engine; None where memory is refused.
-fn volume<G: Ledger>(alloc: Global, blank: Blank) -> Option<Volume<G>>
+fn volume<G: Life>(alloc: Global, blank: Blank) -> Option<Volume<G>>
     requires name { blank.name ≡ G.name }
     requires parts { blank.parts ≡ G.parts }
+    requires before { G.before ≡ [] }
     requires sessions { blank.parts ≡ 65 }
 {
     let store = MemStore::new(alloc, 8).ok()?;
@@ -51,7 +54,7 @@ fn volume<G: Ledger>(alloc: Global, blank: Blank) -> Option<Volume<G>>
 }
 
 /// A transaction that adds 1, sees the sum, and commits.
-fn add_one<G: Ledger>(
+fn add_one<G: Life>(
     rt: &impl Wait,
     shared: &Volume<G>,
     session: &mut Session<G>,
@@ -78,7 +81,7 @@ fn add_one<G: Ledger>(
     commit(rt, shared, session, txn, again)
 }
 
-fn commit<G: Ledger>(
+fn commit<G: Life>(
     rt: &impl Wait,
     shared: &Volume<G>,
     session: &mut Session<G>,
@@ -93,7 +96,7 @@ fn commit<G: Ledger>(
     Some(())
 }
 
-fn flush<G: Ledger>(rt: &impl Wait, shared: &Volume<G>, again: &mut bool) -> Option<()> {
+fn flush<G: Life>(rt: &impl Wait, shared: &Volume<G>, again: &mut bool) -> Option<()> {
     let mut flushed = shared.flush_pass(rt, &OpenGate);
     if was_refused(&flushed, again) {
         flushed = shared.flush_pass(rt, &OpenGate);
@@ -101,7 +104,7 @@ fn flush<G: Ledger>(rt: &impl Wait, shared: &Volume<G>, again: &mut bool) -> Opt
     flushed.ok()
 }
 
-fn checkpoint<G: Ledger>(rt: &impl Wait, shared: &Volume<G>, again: &mut bool) -> Option<Work> {
+fn checkpoint<G: Life>(rt: &impl Wait, shared: &Volume<G>, again: &mut bool) -> Option<Work> {
     let mut pointed = shared.checkpoint(rt, &OpenGate);
     if was_refused(&pointed, again) {
         pointed = shared.checkpoint(rt, &OpenGate);
@@ -110,7 +113,7 @@ fn checkpoint<G: Ledger>(rt: &impl Wait, shared: &Volume<G>, again: &mut bool) -
 }
 
 /// Adds a page to the volume.
-fn grow<G: Ledger>(rt: &impl Wait, shared: &Volume<G>, again: &mut bool) -> Option<()> {
+fn grow<G: Life>(rt: &impl Wait, shared: &Volume<G>, again: &mut bool) -> Option<()> {
     let count = SETUP.pages + 1;
     let mut grown = shared.extend(rt, count);
     if was_refused(&grown, again) {
@@ -131,7 +134,7 @@ fn copied_as(number: u32) -> Work {
 
 /// A full copy, and the number of its id. A copy that was refused is dropped, and its id is not
 /// given again.
-fn copy<G: Ledger + Send + Sync, R: Threads + Wait + Sync>(
+fn copy<G: Life + Send + Sync, R: Threads + Wait + Sync>(
     rt: &R,
     alloc: Global,
     shared: &Volume<G>,
@@ -154,7 +157,7 @@ fn copy<G: Ledger + Send + Sync, R: Threads + Wait + Sync>(
 }
 
 /// Settles the run, again with what is given back where memory was refused.
-fn settled<G: Ledger>(
+fn settled<G: Life>(
     alloc: Global,
     sessions: Vec<Session<G>>,
     works: &[Work],
@@ -220,14 +223,14 @@ fn restores(
 }
 
 /// Places for a session and three works.
-fn rooms<G: Ledger>(alloc: Global) -> Option<(Vec<Session<G>>, Vec<Work>)> {
+fn rooms<G: Life>(alloc: Global) -> Option<(Vec<Session<G>>, Vec<Work>)> {
     let sessions = Vec::with_capacity(alloc, 1).ok()?;
     let works = Vec::with_capacity(alloc, 3).ok()?;
     Some((sessions, works))
 }
 
 /// A run, from its first call to the restore of its copy.
-fn run<G: Ledger + Send + Sync, R: Threads + Wait + Sync>(
+fn run<G: Life + Send + Sync, R: Threads + Wait + Sync>(
     rt: &R,
     alloc: Global,
     mut shared: Volume<G>,
@@ -264,13 +267,14 @@ fn run<G: Ledger + Send + Sync, R: Threads + Wait + Sync>(
 }
 
 /// Opens the engine, and runs it.
-fn open_and_run<G: Ledger + Send + Sync, R: Threads + Wait + Sync>(
+fn open_and_run<G: Life + Send + Sync, R: Threads + Wait + Sync>(
     rt: &R,
     alloc: Global,
     blank: Blank,
 ) -> Option<Option<bool>>
     requires name { blank.name ≡ G.name }
     requires parts { blank.parts ≡ G.parts }
+    requires before { G.before ≡ [] }
     requires sessions { blank.parts ≡ 65 }
 {
     let shared = volume::<G>(alloc, blank)?;

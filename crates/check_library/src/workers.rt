@@ -1,11 +1,11 @@
 //! A copy by two workers of which one meets a fault of the store: the refusal that is answered is
 //! that of the lesser worker, also where the other one meets want of memory.
 
-ghost use Rattle.std.specs.Prelude.{◌≡◌};
+ghost use Rattle.std.specs.Prelude.{[], ◌≡◌};
 
 use aries_core::{Refusal, Setup};
 use copy_vault::CopyKind;
-use engine_run::{HoldGate, OpenGate, Shared, Work};
+use engine_run::{HoldGate, Life, OpenGate, Shared, Work};
 use log_store::MemDevice;
 use page_core::PageNo;
 use page_store::{FaultyStore, MemStore};
@@ -13,7 +13,7 @@ use std::alloc::Global;
 use std::marker::Brand;
 use std::sync::Wait;
 use std::sync::atomic::{AtomicU64, Ordering};
-use std::sync::ledger::{Blank, Ledger};
+use std::sync::ledger::Blank;
 use std::thread;
 use std::thread::Threads;
 
@@ -98,9 +98,10 @@ impl Pair {
 }
 
 /// A shared engine over a store with a damaged page; None where memory is refused.
-fn volume<G: Ledger>(alloc: Global, blank: Blank) -> Option<Volume<G>>
+fn volume<G: Life>(alloc: Global, blank: Blank) -> Option<Volume<G>>
     requires name { blank.name ≡ G.name }
     requires parts { blank.parts ≡ G.parts }
+    requires before { G.before ≡ [] }
     requires sessions { blank.parts ≡ 65 }
 {
     let mut store = FaultyStore::new(alloc, MemStore::new(alloc, SETUP.pages).ok()?, 0).ok()?;
@@ -110,7 +111,7 @@ fn volume<G: Ledger>(alloc: Global, blank: Blank) -> Option<Volume<G>>
 }
 
 /// A checkpoint, once more where memory was refused, and whether it was.
-fn checkpoint<G: Ledger>(rt: &impl Wait, shared: &Volume<G>) -> (Result<Work, Refusal>, bool) {
+fn checkpoint<G: Life>(rt: &impl Wait, shared: &Volume<G>) -> (Result<Work, Refusal>, bool) {
     let pointed = shared.checkpoint(rt, &OpenGate);
     if pointed == Err(Refusal::OutOfMemory) {
         (shared.checkpoint(rt, &OpenGate), true)
@@ -120,7 +121,7 @@ fn checkpoint<G: Ledger>(rt: &impl Wait, shared: &Volume<G>) -> (Result<Work, Re
 }
 
 /// Makes the copy, and tells whether memory was refused; None at a wrong answer.
-fn copy<G: Ledger + Send + Sync, R: Threads + Wait + Sync>(
+fn copy<G: Life + Send + Sync, R: Threads + Wait + Sync>(
     rt: &R,
     alloc: Global,
     shared: &Volume<G>,
@@ -139,13 +140,14 @@ fn copy<G: Ledger + Send + Sync, R: Threads + Wait + Sync>(
 }
 
 /// Opens the engine, and makes the copy; None where it is not opened.
-fn open_and_copy<G: Ledger + Send + Sync, R: Threads + Wait + Sync>(
+fn open_and_copy<G: Life + Send + Sync, R: Threads + Wait + Sync>(
     rt: &R,
     alloc: Global,
     blank: Blank,
 ) -> Option<Option<bool>>
     requires name { blank.name ≡ G.name }
     requires parts { blank.parts ≡ G.parts }
+    requires before { G.before ≡ [] }
     requires sessions { blank.parts ≡ 65 }
 {
     let shared = volume::<G>(alloc, blank)?;

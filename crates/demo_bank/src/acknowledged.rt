@@ -7,11 +7,10 @@ ghost use Rattle.imgcopy_engine.specs.settlement.declared.receipt.Receipt.TheVar
 ghost use Rattle.imgcopy_engine.specs.settlement.declared.receipt.TxnStep.TheVariants as step;
 
 use crate::clerk::Bank;
-use imgcopy_engine::{LogDevice, Lsn, PageStore, Refusal, Session, TxnNo};
+use imgcopy_engine::{Life, LogDevice, Lsn, PageStore, Refusal, Session, TxnNo};
 use std::fmt;
 use std::marker::Model;
 use std::sync::Wait;
-use std::sync::ledger::Ledger;
 
 /// The acknowledgement of a commit. There is none without a commit that was answered, since only
 /// `commit` makes one. Its text is the LSN of the Commit.
@@ -31,7 +30,7 @@ impl Model for Acknowledged {
 impl Acknowledged {
     /// Commits a transaction, and acknowledges it. The session has the receipt of just this commit
     /// then. A commit that is refused is not acknowledged, and leaves no receipt but an unsure one.
-    pub fn commit<S: PageStore, D: LogDevice, G: Ledger>(
+    pub fn commit<S: PageStore, D: LogDevice, G: Life>(
         session: &mut Session<G>,
         rt: &impl Wait,
         bank: &Bank<S, D, G>,

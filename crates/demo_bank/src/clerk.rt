@@ -7,12 +7,11 @@ use crate::draws::{Draws, Transfer};
 use crate::halt::Halt;
 use crate::watch::Watch;
 use imgcopy_engine::{
-    HoldGate, LogDevice, MAX_SESSIONS, PageNo, PageStore, Refusal, Session, Shared, SlotNo,
+    HoldGate, Life, LogDevice, MAX_SESSIONS, PageNo, PageStore, Refusal, Session, Shared, SlotNo,
     StepReceipt, TxnNo, TxnStep, Work,
 };
 use std::alloc::Global;
 use std::sync::Wait;
-use std::sync::ledger::Ledger;
 use std::thread;
 
 /// A bank: a shared engine over this store and this device.
@@ -37,7 +36,7 @@ pub trait Helper {
 
     /// Does something about the refusal of a call on this page, at which the store has failed so
     /// many times before. Then it may be made again. Where nothing can be done, the clerk ends.
-    fn help<S: PageStore, D: LogDevice, G: Ledger, R: Wait>(
+    fn help<S: PageStore, D: LogDevice, G: Life, R: Wait>(
         &self,
         rt: &R,
         bank: &Bank<S, D, G>,
@@ -49,7 +48,7 @@ pub trait Helper {
 
 /// Where the clerks work.
 #[derive(Drop)]
-pub struct Office<'a, S: PageStore, D: LogDevice, G: Ledger, H: Helper> {
+pub struct Office<'a, S: PageStore, D: LogDevice, G: Life, H: Helper> {
     pub bank: &'a Bank<S, D, G>,
     pub watch: &'a Watch,
     pub helper: &'a H,
@@ -83,14 +82,14 @@ pub enum PageCall {
 
 /// One who works at the bank, with what it was answered.
 #[derive(Drop)]
-pub struct Clerk<G: Ledger> {
+pub struct Clerk<G: Life> {
     pub duty: Duty,
     pub session: Session<G>,
     pub works: Vec<Work>,
     pub ended: Result<(), Halt>,
 }
 
-impl<G: Ledger> Clerk<G> {
+impl<G: Life> Clerk<G> {
     /// A clerk of this duty, with a session of its own. `TooManyTxns` stands for too many sessions.
     pub fn hire<S: PageStore + Drop, D: LogDevice + Drop>(
         alloc: Global,
@@ -267,7 +266,7 @@ impl<G: Ledger> Clerk<G> {
 }
 
 /// Writes the pages that are dirty, so often.
-pub fn flush<S: PageStore, D: LogDevice, G: Ledger>(
+pub fn flush<S: PageStore, D: LogDevice, G: Life>(
     rt: &impl Wait,
     bank: &Bank<S, D, G>,
     passes: u32,

@@ -1,6 +1,6 @@
 //! A day of the bank in memory, up to its crash.
 
-ghost use Rattle.std.specs.Prelude.{◌≡◌};
+ghost use Rattle.std.specs.Prelude.{[], ◌≡◌};
 
 use crate::accounts::PAGES;
 use crate::case::Case;
@@ -11,11 +11,12 @@ use crate::halt::Halt;
 use crate::in_memory::{MemBank, MemOffice, NoHelp};
 use crate::watch::{Watch, Which};
 use imgcopy_engine::{
-    LogDevice, MemDevice, MemStore, OpenGate, PageStore, Retired, Session, Setup, Work, settle,
+    Life, LogDevice, MemDevice, MemStore, OpenGate, PageStore, Retired, Session, Setup, Work,
+    settle,
 };
 use std::alloc::{AllocError, Global};
 use std::sync::Wait;
-use std::sync::ledger::{Blank, Ledger};
+use std::sync::ledger::Blank;
 use std::thread;
 use std::thread::Threads;
 
@@ -23,9 +24,10 @@ use std::thread::Threads;
 const RECORDS: usize = 65_536;
 
 /// Opens the bank: a shared engine over formatted pages.
-fn open_bank<G: Ledger>(alloc: Global, blank: Blank) -> Result<MemBank<G>, Fault>
+fn open_bank<G: Life>(alloc: Global, blank: Blank) -> Result<MemBank<G>, Fault>
     requires name { blank.name ≡ G.name }
     requires parts { blank.parts ≡ G.parts }
+    requires before { G.before ≡ [] }
     requires sessions { blank.parts ≡ 65 }
 {
     let setup = Setup {
@@ -38,7 +40,7 @@ fn open_bank<G: Ledger>(alloc: Global, blank: Blank) -> Result<MemBank<G>, Fault
 }
 
 /// Hires a teller for each row.
-pub fn hire_tellers<S: PageStore + Drop, D: LogDevice + Drop, G: Ledger>(
+pub fn hire_tellers<S: PageStore + Drop, D: LogDevice + Drop, G: Life>(
     alloc: Global,
     bank: &mut Bank<S, D, G>,
     case: &Case,
@@ -53,7 +55,7 @@ pub fn hire_tellers<S: PageStore + Drop, D: LogDevice + Drop, G: Ledger>(
 
 /// All who work there: the copier first, so that its copies begin soon; then the tellers, and one
 /// of each other duty.
-fn hire_all<G: Ledger>(
+fn hire_all<G: Life>(
     alloc: Global,
     bank: &mut MemBank<G>,
     case: &Case,
@@ -72,7 +74,7 @@ fn hire_all<G: Ledger>(
 }
 
 /// Has this clerk open the accounts, stores their pages, and takes a checkpoint.
-fn open_accounts<G: Ledger>(
+fn open_accounts<G: Life>(
     rt: &impl Wait,
     office: &MemOffice<'_, G>,
     clerk: &mut Clerk<G>,
@@ -85,13 +87,13 @@ fn open_accounts<G: Ledger>(
 
 /// What the clerks were answered: their sessions, and their checkpoints and copies.
 #[derive(Drop)]
-pub struct Answers<G: Ledger> {
+pub struct Answers<G: Life> {
     sessions: Vec<Session<G>>,
     works: Vec<Work>,
 }
 
 /// The checkpoints and the copies of all clerks.
-fn works_of<G: Ledger>(alloc: Global, clerks: &[Clerk<G>]) -> Result<Vec<Work>, AllocError> {
+fn works_of<G: Life>(alloc: Global, clerks: &[Clerk<G>]) -> Result<Vec<Work>, AllocError> {
     let mut works = Vec::new(alloc);
     for clerk in clerks {
         for work in &clerk.works {
@@ -102,10 +104,7 @@ fn works_of<G: Ledger>(alloc: Global, clerks: &[Clerk<G>]) -> Result<Vec<Work>, 
 }
 
 /// What these clerks were answered.
-pub fn answers_of<G: Ledger>(
-    alloc: Global,
-    clerks: Vec<Clerk<G>>,
-) -> Result<Answers<G>, AllocError> {
+pub fn answers_of<G: Life>(alloc: Global, clerks: Vec<Clerk<G>>) -> Result<Answers<G>, AllocError> {
     let works = works_of(alloc, &clerks)?;
     let mut sessions = Vec::with_capacity(alloc, clerks.len())?;
     for clerk in clerks {
@@ -115,7 +114,7 @@ pub fn answers_of<G: Ledger>(
 }
 
 /// Ends the run of a bank, where it is settled with what all were answered.
-pub fn end_run<S: PageStore + Drop, D: LogDevice + Drop, G: Ledger>(
+pub fn end_run<S: PageStore + Drop, D: LogDevice + Drop, G: Life>(
     alloc: Global,
     answers: Answers<G>,
     bank: Bank<S, D, G>,
@@ -127,7 +126,7 @@ pub fn end_run<S: PageStore + Drop, D: LogDevice + Drop, G: Ledger>(
 }
 
 /// The first refusal that a clerk met.
-fn first_refusal<G: Ledger>(clerks: &[Clerk<G>]) -> Result<(), Halt> {
+fn first_refusal<G: Life>(clerks: &[Clerk<G>]) -> Result<(), Halt> {
     for clerk in clerks {
         clerk.ended?;
     }
@@ -135,7 +134,7 @@ fn first_refusal<G: Ledger>(clerks: &[Clerk<G>]) -> Result<(), Halt> {
 }
 
 /// Has each teller begin a transfer. In every second one the money does not come to its account.
-fn leave_open<G: Ledger>(
+fn leave_open<G: Life>(
     rt: &impl Wait,
     office: &MemOffice<'_, G>,
     clerks: &mut [Clerk<G>],
@@ -151,7 +150,7 @@ fn leave_open<G: Ledger>(
 }
 
 /// Has all clerks work at the same time, each in a thread of its own.
-fn all_work<G: Ledger + Send + Sync, R: Threads + Wait + Sync>(
+fn all_work<G: Life + Send + Sync, R: Threads + Wait + Sync>(
     rt: &R,
     alloc: Global,
     office: &MemOffice<'_, G>,
@@ -169,7 +168,7 @@ fn all_work<G: Ledger + Send + Sync, R: Threads + Wait + Sync>(
 }
 
 /// The work of a day, from the opening of the accounts to the transfers that are left open.
-fn work_day<G: Ledger + Send + Sync, R: Threads + Wait + Sync>(
+fn work_day<G: Life + Send + Sync, R: Threads + Wait + Sync>(
     rt: &R,
     alloc: Global,
     office: &MemOffice<'_, G>,
@@ -192,7 +191,7 @@ pub struct Behind {
 
 /// Works a day by clerks that are hired for it: what they were answered, and what was changed behind
 /// the copies.
-fn worked<G: Ledger + Send + Sync, R: Threads + Wait + Sync>(
+fn worked<G: Life + Send + Sync, R: Threads + Wait + Sync>(
     rt: &R,
     alloc: Global,
     bank: &mut MemBank<G>,
@@ -223,7 +222,7 @@ pub struct Settled {
 
 /// Opens the bank, has all clerks work at the same time, and settles. At the end each teller has
 /// begun a transfer, and in every second one the money has not come to its account.
-pub fn day<G: Ledger + Send + Sync, R: Threads + Wait + Sync>(
+pub fn day<G: Life + Send + Sync, R: Threads + Wait + Sync>(
     rt: &R,
     alloc: Global,
     blank: Blank,
@@ -231,6 +230,7 @@ pub fn day<G: Ledger + Send + Sync, R: Threads + Wait + Sync>(
 ) -> Result<Settled, Fault>
     requires name { blank.name ≡ G.name }
     requires parts { blank.parts ≡ G.parts }
+    requires before { G.before ≡ [] }
     requires sessions { blank.parts ≡ 65 }
 {
     let mut bank = open_bank::<G>(alloc, blank)?;

@@ -1,6 +1,6 @@
 //! A day of the bank on files.
 
-ghost use Rattle.std.specs.Prelude.{◌≡◌};
+ghost use Rattle.std.specs.Prelude.{[], ◌≡◌};
 
 use crate::accounts::PAGES;
 use crate::case::Case;
@@ -13,10 +13,10 @@ use crate::halt::Halt;
 use crate::line::Line;
 use crate::on_files::{FileBank, FileOffice};
 use crate::watch::Watch;
-use imgcopy_engine::{MemStore, Notes, Refusal, Retired, Setup, SystemFolder};
+use imgcopy_engine::{Life, MemStore, Notes, Refusal, Retired, Setup, SystemFolder};
 use std::alloc::Global;
 use std::sync::Wait;
-use std::sync::ledger::{Blank, Ledger};
+use std::sync::ledger::Blank;
 use std::thread;
 use std::thread::{Scope, Threads};
 
@@ -34,7 +34,7 @@ pub struct Plan<'a> {
 const FRAMES: u32 = 8;
 
 /// Opens the bank: a shared engine over formatted pages, on a log and a volume in files.
-pub fn open_bank<G: Ledger>(
+pub fn open_bank<G: Life>(
     files: &HostRuntime,
     folder: &mut SystemFolder<'_>,
     name: &str,
@@ -42,6 +42,7 @@ pub fn open_bank<G: Ledger>(
 ) -> Result<FileBank<G>, Fault>
     requires name { blank.name ≡ G.name }
     requires parts { blank.parts ≡ G.parts }
+    requires before { G.before ≡ [] }
     requires sessions { blank.parts ≡ 65 }
 {
     let alloc = files.alloc();
@@ -55,7 +56,7 @@ pub fn open_bank<G: Ledger>(
 }
 
 /// Has this clerk open the accounts and take a checkpoint.
-pub fn open_accounts<G: Ledger>(
+pub fn open_accounts<G: Life>(
     rt: &impl Wait,
     office: &FileOffice<'_, G>,
     clerk: &mut Clerk<G>,
@@ -66,7 +67,7 @@ pub fn open_accounts<G: Ledger>(
 }
 
 /// All who work there: the tellers, and one of each other duty.
-fn hire_all<G: Ledger>(
+fn hire_all<G: Life>(
     alloc: Global,
     bank: &mut FileBank<G>,
     case: &Case,
@@ -85,7 +86,7 @@ fn hire_all<G: Ledger>(
 
 /// Has each clerk work in a thread of its own. Where a thread cannot be started, memory is short,
 /// and that ends the day: others would wait for the one who has not come.
-fn start_all<'s, E, G: Ledger + Send + Sync, R: Threads + Wait + Sync>(
+fn start_all<'s, E, G: Life + Send + Sync, R: Threads + Wait + Sync>(
     scope: &Scope<'s, E>,
     rt: &'s R,
     office: &'s FileOffice<'s, G>,
@@ -102,7 +103,7 @@ fn start_all<'s, E, G: Ledger + Send + Sync, R: Threads + Wait + Sync>(
 }
 
 /// Has all clerks work at the same time, and says why the day ended, if a fault ended it.
-fn all_work<G: Ledger + Send + Sync, R: Threads + Wait + Sync>(
+fn all_work<G: Life + Send + Sync, R: Threads + Wait + Sync>(
     rt: &R,
     office: &FileOffice<'_, G>,
     clerks: &mut [Clerk<G>],
@@ -114,7 +115,7 @@ fn all_work<G: Ledger + Send + Sync, R: Threads + Wait + Sync>(
 }
 
 /// The work of a day, from the opening of the accounts on, by clerks that are hired for it.
-fn worked<G: Ledger + Send + Sync, R: Threads + Wait + Sync>(
+fn worked<G: Life + Send + Sync, R: Threads + Wait + Sync>(
     rt: &R,
     bank: &mut FileBank<G>,
     hall: &Hall<'_>,
@@ -137,7 +138,7 @@ fn worked<G: Ledger + Send + Sync, R: Threads + Wait + Sync>(
 }
 
 /// A day of a bank that is open.
-fn day_in<G: Ledger + Send + Sync, R: Threads + Wait + Sync>(
+fn day_in<G: Life + Send + Sync, R: Threads + Wait + Sync>(
     rt: &R,
     plan: &Plan<'_>,
     mut bank: FileBank<G>,
@@ -156,13 +157,14 @@ fn day_in<G: Ledger + Send + Sync, R: Threads + Wait + Sync>(
 
 /// Opens the bank in a folder, has all clerks work at the same time, and settles. Each thing that
 /// lasts is told in a line once it does.
-pub fn file_day<G: Ledger + Send + Sync, R: Threads + Wait + Sync>(
+pub fn file_day<G: Life + Send + Sync, R: Threads + Wait + Sync>(
     rt: &R,
     blank: Blank,
     plan: &Plan<'_>,
 ) -> Result<Retired, Fault>
     requires name { blank.name ≡ G.name }
     requires parts { blank.parts ≡ G.parts }
+    requires before { G.before ≡ [] }
     requires sessions { blank.parts ≡ 65 }
 {
     let (files, name) = (plan.files, plan.folder);

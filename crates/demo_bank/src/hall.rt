@@ -4,10 +4,9 @@ use crate::clerk::{Bank, Helper, MOST_TRIES, flush};
 use crate::halt::{FileTrouble, Halt, Place};
 use crate::line::Line;
 use crate::watch::Watch;
-use imgcopy_engine::{CopyId, LogDevice, Lsn, PageNo, PageStore, Refusal};
+use imgcopy_engine::{CopyId, Life, LogDevice, Lsn, PageNo, PageStore, Refusal};
 use std::io::{Stdout, Write};
 use std::sync::atomic::{AtomicBool, AtomicU64, Ordering};
-use std::sync::ledger::Ledger;
 use std::sync::{Mutex, Wait};
 use std::thread;
 use std::time::Duration;
@@ -117,7 +116,7 @@ impl<'a> Hall<'a> {
 
     /// Writes the pages that are dirty. Where the store fails, it is tried again: the write that was
     /// begun is ended then.
-    pub fn flush<S: PageStore, D: LogDevice, G: Ledger>(
+    pub fn flush<S: PageStore, D: LogDevice, G: Life>(
         &self,
         rt: &impl Wait,
         bank: &Bank<S, D, G>,
@@ -133,7 +132,7 @@ impl<'a> Hall<'a> {
 
     /// Stores a page anew that cannot be read, from the newest copy. A write of it that was begun
     /// is ended first.
-    fn repair<S: PageStore, D: LogDevice, G: Ledger>(
+    fn repair<S: PageStore, D: LogDevice, G: Life>(
         &self,
         rt: &impl Wait,
         bank: &Bank<S, D, G>,
@@ -170,7 +169,7 @@ impl Helper for Hall<'_> {
     }
 
     /// Has dirty pages written where no frame was free, and repairs a page that could not be read.
-    fn help<S: PageStore, D: LogDevice, G: Ledger, R: Wait>(
+    fn help<S: PageStore, D: LogDevice, G: Life, R: Wait>(
         &self,
         rt: &R,
         bank: &Bank<S, D, G>,

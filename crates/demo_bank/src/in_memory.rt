@@ -7,11 +7,10 @@ use crate::draws::Draws;
 use crate::halt::Halt;
 use crate::watch::{Pace, Which};
 use imgcopy_engine::{
-    CopyId, CopyKind, LogDevice, MemDevice, MemStore, PageNo, PageStore, Refusal, SlotNo,
+    CopyId, CopyKind, Life, LogDevice, MemDevice, MemStore, PageNo, PageStore, Refusal, SlotNo,
 };
 use std::alloc::Global;
 use std::sync::Wait;
-use std::sync::ledger::Ledger;
 use std::thread;
 use std::thread::Threads;
 
@@ -43,7 +42,7 @@ impl Helper for NoHelp {
         Ok(())
     }
 
-    fn help<S: PageStore, D: LogDevice, G: Ledger, R: Wait>(
+    fn help<S: PageStore, D: LogDevice, G: Life, R: Wait>(
         &self,
         _rt: &R,
         _bank: &Bank<S, D, G>,
@@ -55,7 +54,7 @@ impl Helper for NoHelp {
     }
 }
 
-impl<G: Ledger> Clerk<G> {
+impl<G: Life> Clerk<G> {
     /// Begins the next transfer, and does not end it. Every second one has not come to its account.
     pub fn leave_open(
         &mut self,
@@ -119,7 +118,7 @@ impl<G: Ledger> Clerk<G> {
     }
 }
 
-impl<G: Ledger + Send + Sync> Clerk<G> {
+impl<G: Life + Send + Sync> Clerk<G> {
     /// Does what is its duty.
     pub fn work<R: Threads + Wait + Sync>(
         &mut self,

@@ -10,12 +10,11 @@ use crate::halt::Halt;
 use crate::line::Line;
 use crate::put::{put_copy, put_master};
 use imgcopy_engine::{
-    CopyId, CopyKind, FileLog, FileStore, HoldGate, PageNo, Refusal, SlotNo, Work,
+    CopyId, CopyKind, FileLog, FileStore, HoldGate, Life, PageNo, Refusal, SlotNo, Work,
 };
 use std::alloc::Global;
 use std::sync::Wait;
 use std::sync::atomic::{AtomicU64, Ordering};
-use std::sync::ledger::Ledger;
 use std::thread;
 use std::thread::Threads;
 
@@ -84,7 +83,7 @@ impl Chain {
     }
 }
 
-impl<G: Ledger> Clerk<G> {
+impl<G: Life> Clerk<G> {
     /// Makes so many transfers, and acknowledges each commit.
     fn tell_transfers(
         &mut self,
@@ -155,7 +154,7 @@ impl<G: Ledger> Clerk<G> {
     }
 }
 
-impl<G: Ledger + Send + Sync> Clerk<G> {
+impl<G: Life + Send + Sync> Clerk<G> {
     /// Does what is its duty, as long as there are tellers, and notes how it ended.
     pub fn work_on_files<R: Threads + Wait + Sync>(&mut self, rt: &R, office: &FileOffice<'_, G>) {
         let (duty, alloc) = (self.duty, office.helper.files.alloc());
@@ -249,7 +248,7 @@ fn again(kind: &CopyKind) -> CopyKind {
 
 /// Makes a copy. Where a page cannot be read, the copy is made again by one worker, so that it is
 /// known which page that is, and the page is repaired.
-fn copy_again<G: Ledger + Send + Sync, R: Threads + Wait + Sync>(
+fn copy_again<G: Life + Send + Sync, R: Threads + Wait + Sync>(
     rt: &R,
     alloc: Global,
     office: &FileOffice<'_, G>,

@@ -12,23 +12,22 @@ use crate::clerk::Bank;
 use crate::hall::Hall;
 use crate::halt::{FileTrouble, Halt, Place};
 use imgcopy_engine::{
-    CopyId, CopyWriteFault, FileFault, Folder, LogDevice, Master, Notes, PageStore, Point,
+    CopyId, CopyWriteFault, FileFault, Folder, Life, LogDevice, Master, Notes, PageStore, Point,
     PutFault, Refusal, SavedName, Source, SystemFolder, put_in_place,
 };
 use std::alloc::Global;
 use std::io::Write;
 use std::sync::Wait;
-use std::sync::ledger::Ledger;
 
 /// A copy of a shared engine, whose archive is written.
 #[derive(Drop)]
-struct SharedCopy<'a, R: Wait, S: PageStore, D: LogDevice, G: Ledger> {
+struct SharedCopy<'a, R: Wait, S: PageStore, D: LogDevice, G: Life> {
     rt: &'a R,
     bank: &'a Bank<S, D, G>,
     id: CopyId,
 }
 
-impl<R: Wait, S: PageStore, D: LogDevice, G: Ledger> Source for SharedCopy<'_, R, S, D, G> {
+impl<R: Wait, S: PageStore, D: LogDevice, G: Life> Source for SharedCopy<'_, R, S, D, G> {
     type Fault = CopyWriteFault;
 
     ghost gives = { λ it old new. WritesCopyOf it.id old new };
@@ -84,7 +83,7 @@ fn place_master<F: Folder>(
 }
 
 /// Puts the archive of a complete copy in place, while others work.
-fn place_copy<F: Folder, S: PageStore, D: LogDevice, G: Ledger, R: Wait>(
+fn place_copy<F: Folder, S: PageStore, D: LogDevice, G: Life, R: Wait>(
     rt: &R,
     folder: &mut F,
     alloc: Global,
@@ -130,7 +129,7 @@ fn master_placed(
 }
 
 /// Opens the folder of a day, and puts the archive of a copy in place.
-fn copy_placed<S: PageStore, D: LogDevice, G: Ledger, R: Wait>(
+fn copy_placed<S: PageStore, D: LogDevice, G: Life, R: Wait>(
     rt: &R,
     files: &HostRuntime,
     name: &str,
@@ -157,7 +156,7 @@ pub fn put_master(hall: &Hall<'_>, point: &Point) -> Result<(), Halt> {
 }
 
 /// Puts the archive of a complete copy in place, while others work.
-pub fn put_copy<S: PageStore, D: LogDevice, G: Ledger, R: Wait>(
+pub fn put_copy<S: PageStore, D: LogDevice, G: Life, R: Wait>(
     rt: &R,
     hall: &Hall<'_>,
     bank: &Bank<S, D, G>,

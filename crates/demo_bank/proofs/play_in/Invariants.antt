@@ -1,4 +1,8 @@
+use Rattle.std.specs.Prelude.{[]}
 use Rattle.demo_bank.proofs.play_in.Given as goal
 
-abbrev pub ghosts-file_day : goal.ghosts-file_day
-ghosts-file_day g a = record { name = a.blank.name; parts = a.blank.parts }
+abbrev pub ghosts-file_day-G-Ledger : goal.ghosts-file_day-G-Ledger
+ghosts-file_day-G-Ledger g a = record { name = a.blank.name; parts = a.blank.parts }
+
+abbrev pub ghosts-file_day-G-Life : goal.ghosts-file_day-G-Life
+ghosts-file_day-G-Life g a = record { before = [] }
